@@ -5,10 +5,9 @@ use Rattle.std.proofs.lemmas.Bool.{cases_lt}
 use Rattle.std.proofs.lemmas.Bool.Decides.{nat_tests}
 use Rattle.helics_time.specs.Time.{max_time, horizon}
 use Rattle.helics_time.specs.Stamp.{At, next_of, rank, IsDue}
-use Rattle.time_state.specs.Fed.{Fed, IsFed, request_stamp, event_of}
+use Rattle.time_state.specs.Fed.{Fed, IsEvent, IsFed, request_stamp, event_of}
 use Rattle.time_state.specs.declared.Phase.{Phase}
 use Rattle.time_state.specs.declared.Phase.TheVariants.{Created, Initializing, Entering, Running, Waiting, Ended}
-use Rattle.time_state.specs.Laws.{IsEvent, Stands}
 use Rattle.time_state.proofs.Stamps.{Steps, item_steps, request_steps, item_above, item_goes, request_goes, Goes}
 use Rattle.hel_lists.specs.Members.{Each}
 use Rattle.time_state.specs.Laws.{Turn, MayTurn, turned}
@@ -90,8 +89,8 @@ last_event f fed = record { time = low f.last.time fed.time; micro = omega (arit
     low : (t : ℕ) → (nat_lt t horizon || t == max_time) ≡ true → t ≤ max_time
     low t e = grind (arith, nat_tests)
 
-pub event_is : (f : Fed) (dues : List At) → Stands f → Each IsDue dues → f.phase ≢ Ended Finished → IsEvent (event_of f dues)
-event_is f dues stands due other = by_phase f.phase refl
+pub event_is : (f : Fed) (dues : List At) → IsFed f → Each IsDue dues → f.phase ≢ Ended Finished → IsEvent (event_of f dues)
+event_is f dues fed due other = by_phase f.phase refl
   where
     zero_is : IsEvent zero_stamp
     zero_is = record { time = omega arith; micro = omega arith }
@@ -100,15 +99,16 @@ event_is f dues stands due other = by_phase f.phase refl
     by_phase Created is = rw is zero_is
     by_phase Initializing is = rw is zero_is
     by_phase Entering is = rw is (record { time = omega arith; micro = omega arith })
-    by_phase Running is = rw is (last_event f stands.is_fed)
-    by_phase Waiting is = goes_event f (event_of f dues) stands.is_fed (event_goes f dues stands.is_fed is due)
+    by_phase Running is = rw is (last_event f fed)
+    by_phase Waiting is = goes_event f (event_of f dues) fed (event_goes f dues fed is due)
     by_phase (Ended Finished) is = absurd (other is)
-    by_phase (Ended Failed) is = rw is stands.kept
-    by_phase (Ended Died) is = rw is stands.kept
-    by_phase (Ended (Halted d)) is = rw is stands.kept
+    by_phase (Ended Failed) is = rw is fed.kept
+    by_phase (Ended Died) is = rw is fed.kept
+    by_phase (Ended (Halted d)) is = rw is fed.kept
 
-fed_in : (f : Fed) (p : Phase) → IsFed f → (p ≡ Waiting → ⊥) → (is_first p ≡ true → is_first f.phase ≡ true) → IsFed (record f { phase = p })
-fed_in f p fed idle first = record {
+-- what is kept in another phase, where nothing is asked for
+fed_in : (f : Fed) (p : Phase) (kept : At) → IsFed f → IsEvent kept → (p ≡ Waiting → ⊥) → (is_first p ≡ true → is_first f.phase ≡ true) → IsFed (record f { phase = p; kept = kept })
+fed_in f p kept fed is idle first = record {
   settings = fed.settings;
   time = fed.time;
   micro = fed.micro;
@@ -118,28 +118,11 @@ fed_in f p fed idle first = record {
   may_iterate = λ e it. absurd (idle e);
   first = λ e. fed.first (first e);
   none = λ e. fed.none (first e);
+  cut_is = fed.cut_is;
+  cut_low = fed.cut_low;
+  cut_high = fed.cut_high;
+  kept = is;
 }
-
-stands_in : (f : Fed) (p : Phase) (kept : At) → Stands f → IsEvent kept → (p ≡ Waiting → ⊥) → (is_first p ≡ true → is_first f.phase ≡ true) → Stands (record f { phase = p; kept = kept })
-stands_in f p kept stands is idle first =
-    let fed = fed_in f p stands.is_fed idle first in
-    record {
-      is_fed = record {
-        settings = fed.settings;
-        time = fed.time;
-        micro = fed.micro;
-        count = fed.count;
-        asked = fed.asked;
-        waiting = fed.waiting;
-        may_iterate = fed.may_iterate;
-        first = fed.first;
-        none = fed.none;
-      };
-      cut_is = stands.cut_is;
-      cut_low = stands.cut_low;
-      cut_high = stands.cut_high;
-      kept = is;
-    }
 
 requested_fed : (f : Fed) (time : ℕ) (mode : Mode) → IsFed f → (f.last.time ≡ max_time → ⊥) → time ≤ max_time → IsFed (requested f time mode)
 requested_fed f time mode fed not fits = record {
@@ -152,6 +135,10 @@ requested_fed f time mode fed not fits = record {
   may_iterate = λ e it. more mode f.count f.settings.max_iterations it;
   first = λ e. absurd (false≢true e);
   none = λ e. absurd (false≢true e);
+  cut_is = fed.cut_is;
+  cut_low = fed.cut_low;
+  cut_high = fed.cut_high;
+  kept = fed.kept;
 }
   where
     low : (t : ℕ) → (nat_lt t horizon || t == max_time) ≡ true → (t ≡ max_time → ⊥) → t < horizon
@@ -163,18 +150,12 @@ requested_fed f time mode fed not fits = record {
     more : (m : Mode) (n most : ℕ) → iterates (if nat_le most n then Next else m) ≡ true → n < most
     more m n most it = elim (cases_lt n most) [ inl l ↦ l | inr le ↦ absurd (false≢true (sym (taken_next m n most le) ∙ it)) ]
 
-pub turn_stands : (f : Fed) (t : Turn) → Stands f → MayTurn f t → Stands (turned f t)
-turn_stands f begins stands may = stands_in f Initializing f.kept stands stands.kept (λ e. cc) (λ e. rw may refl)
-turn_stands f enters stands may = stands_in f Entering f.kept stands stands.kept (λ e. cc) (λ e. rw (may_enter f may) refl)
-turn_stands f (requests time mode) stands may = record {
-  is_fed = requested_fed f time mode stands.is_fed (may_request f may.0).1 may.1;
-  cut_is = stands.cut_is;
-  cut_low = stands.cut_low;
-  cut_high = stands.cut_high;
-  kept = stands.kept;
-}
-turn_stands f finishes stands may =
-    stands_in f (Ended Finished) (event_of f []) stands (event_is f [] stands (λ d none. absurd none) (λ e. elim may [ inl i ↦ absurd (clash_i e i) | inr r ↦ absurd (clash_r e r) ]))
+pub turn_stands : (f : Fed) (t : Turn) → IsFed f → MayTurn f t → IsFed (turned f t)
+turn_stands f begins fed may = fed_in f Initializing f.kept fed fed.kept (λ e. cc) (λ e. rw may refl)
+turn_stands f enters fed may = fed_in f Entering f.kept fed fed.kept (λ e. cc) (λ e. rw (may_enter f may) refl)
+turn_stands f (requests time mode) fed may = requested_fed f time mode fed (may_request f may.0).1 may.1
+turn_stands f finishes fed may =
+    fed_in f (Ended Finished) (event_of f []) fed (event_is f [] fed (λ d none. absurd none) (λ e. elim may [ inl i ↦ absurd (clash_i e i) | inr r ↦ absurd (clash_r e r) ]))
     (λ e. cc) (λ e. absurd (false≢true e))
   where
     clash_i : f.phase ≡ Ended Finished → f.phase ≡ Initializing → ⊥
@@ -183,20 +164,20 @@ turn_stands f finishes stands may =
     clash_r : f.phase ≡ Ended Finished → f.phase ≡ Running → ⊥
     clash_r e r = cc
 
-pub turns_rise : (f : Fed) (t : Turn) (dues more : List At) → Stands f → Each IsDue dues → Each IsDue more → MayTurn f t → rank (event_of f dues) ≤ rank (event_of (turned f t) more)
-turns_rise f begins dues more stands due due_more may = rw may (omega arith)
-turns_rise f enters dues more stands due due_more may = rw (may_enter f may) (omega arith)
-turns_rise f (requests time mode) dues more stands due due_more may =
+pub turns_rise : (f : Fed) (t : Turn) (dues more : List At) → IsFed f → Each IsDue dues → Each IsDue more → MayTurn f t → rank (event_of f dues) ≤ rank (event_of (turned f t) more)
+turns_rise f begins dues more fed due due_more may = rw may (omega arith)
+turns_rise f enters dues more fed due due_more may = rw (may_enter f may) (omega arith)
+turns_rise f (requests time mode) dues more fed due due_more may =
     let g : Fed = requested f time mode in
-    let fed = requested_fed f time mode stands.is_fed (may_request f may.0).1 may.1 in
+    let fed = requested_fed f time mode fed (may_request f may.0).1 may.1 in
     let run : event_of f dues ≡ f.last = rw (may_request f may.0).0 refl in
     let above = greatest g more (rank f.last) (request_rises g fed refl) (λ d among counts. (let a = item_above g d fed refl (due_more d among) in omega (arith, a))) in
     rw run above
   where
     request_rises : (g : Fed) → IsFed g → g.phase ≡ Waiting → rank g.last ≤ rank (event_of g [])
     request_rises g fed waits = let a = (event_goes g [] fed waits (λ d none. absurd none)).rises in omega (arith, a)
-turns_rise f finishes dues more stands due due_more may =
-    let e = event_is f dues stands due (λ e. elim may [ inl i ↦ absurd (clash_i e i) | inr r ↦ absurd (clash_r e r) ]) in
+turns_rise f finishes dues more fed due due_more may =
+    let e = event_is f dues fed due (λ e. elim may [ inl i ↦ absurd (clash_i e i) | inr r ↦ absurd (clash_r e r) ]) in
     omega (arith, e.time, e.micro)
   where
     clash_i : f.phase ≡ Ended Finished → f.phase ≡ Initializing → ⊥
@@ -205,19 +186,17 @@ turns_rise f finishes dues more stands due due_more may =
     clash_r : f.phase ≡ Ended Finished → f.phase ≡ Running → ⊥
     clash_r e r = cc
 
-pub opening_stands : (s : Terms) → IsTerms s → Stands (created s)
+pub opening_stands : (s : Terms) → IsTerms s → IsFed (created s)
 opening_stands s terms = record {
-  is_fed = record {
-    settings = terms;
-    time = refl;
-    micro = omega arith;
-    count = omega arith;
-    asked = omega arith;
-    waiting = λ e. cc;
-    may_iterate = λ e it. cc;
-    first = λ e. refl;
-    none = λ e. refl;
-  };
+  settings = terms;
+  time = refl;
+  micro = omega arith;
+  count = omega arith;
+  asked = omega arith;
+  waiting = λ e. cc;
+  may_iterate = λ e it. cc;
+  first = λ e. refl;
+  none = λ e. refl;
   cut_is = record { time = omega arith; micro = omega arith };
   cut_low = omega arith;
   cut_high = omega arith;
@@ -228,29 +207,26 @@ opening_stands s terms = record {
 after_at : Fed → At → At → ℕ → Fed
 after_at f s cut count = record f { phase = Running; last = s; last_cut = cut; count = count }
 
-after_stands : (f : Fed) (s cut : At) (count : ℕ) → Stands f → (s.time < horizon) ⊎ (s.time ≡ max_time) → s.micro ≤ 2 ^ 62 + 1 + count → count ≤ f.settings.max_iterations → (cut ≡ s) ⊎ (cut ≡ next_of s) → Stands (after_at f s cut count)
+after_stands : (f : Fed) (s cut : At) (count : ℕ) → IsFed f → (s.time < horizon) ⊎ (s.time ≡ max_time) → s.micro ≤ 2 ^ 62 + 1 + count → count ≤ f.settings.max_iterations → (cut ≡ s) ⊎ (cut ≡ next_of s) → IsFed (after_at f s cut count)
 unfolding after_at
-after_stands f s cut count stands time micro few cut_is =
-    let fed = stands.is_fed in
+after_stands f s cut count fed time micro few cut_is =
     let small : s.micro ≤ 2 ^ 62 + 20000 = omega (arith, fed.settings.few_iterations) in
     let fits : s.time ≤ max_time = elim time [ inl l ↦ omega arith | inr e ↦ omega arith ] in
     let c = cut_near s cut fits small cut_is in
     record {
-      is_fed = record {
-        settings = fed.settings;
-        time = tests s.time time;
-        micro = micro;
-        count = few;
-        asked = fed.asked;
-        waiting = λ e. cc;
-        may_iterate = λ e it. cc;
-        first = λ e. absurd (false≢true e);
-        none = λ e. absurd (false≢true e);
-      };
+      settings = fed.settings;
+      time = tests s.time time;
+      micro = micro;
+      count = few;
+      asked = fed.asked;
+      waiting = λ e. cc;
+      may_iterate = λ e it. cc;
+      first = λ e. absurd (false≢true e);
+      none = λ e. absurd (false≢true e);
       cut_is = c.0;
       cut_low = c.1;
       cut_high = c.2;
-      kept = stands.kept;
+      kept = fed.kept;
     }
   where
     tests : (t : ℕ) → (t < horizon) ⊎ (t ≡ max_time) → (nat_lt t horizon || t == max_time) ≡ true
@@ -274,8 +250,8 @@ granted_entering : (f : Fed) (dues : List At) → f.phase ≡ Entering → grant
 unfolding after_at
 granted_entering f dues is = rw is refl
 
-pub grant_stands : (f : Fed) (dues : List At) → Stands f → Each IsDue dues → is_asking f.phase ≡ true → Stands (granted f dues)
-grant_stands f dues stands due asks = by_phase f.phase refl
+pub grant_stands : (f : Fed) (dues : List At) → IsFed f → Each IsDue dues → is_asking f.phase ≡ true → IsFed (granted f dues)
+grant_stands f dues fed due asks = by_phase f.phase refl
   where
     counts : (t m now n most : ℕ) → m ≤ 2 ^ 62 + 2 + n → (now < t → m ≤ 2 ^ 62 + 1) → (t ≡ now → n < most) → n ≤ 10000 → (last : ℕ) → now * 2 ^ 64 + last < t * 2 ^ 64 + m → (m ≤ 2 ^ 62 + 1 + (if t == now then n + 1 else 0)) × ((if t == now then n + 1 else 0) ≤ most)
     counts t m now n most small new same few last rises = grind (arith, nat_tests)
@@ -287,19 +263,19 @@ grant_stands f dues stands due asks = by_phase f.phase refl
     cut_cases true s = inr refl
     cut_cases false s = inl refl
 
-    by_phase : (p : Phase) → f.phase ≡ p → Stands (granted f dues)
-    by_phase Entering is = subst (λ (g : Fed). Stands g) (sym (granted_entering f dues is)) (after_stands f (record { time = 0; micro = 1 }) (record { time = 0; micro = 1 }) 0 stands (inl (omega arith)) (omega arith) (omega arith) (inl refl))
+    by_phase : (p : Phase) → f.phase ≡ p → IsFed (granted f dues)
+    by_phase Entering is = subst (λ (g : Fed). IsFed g) (sym (granted_entering f dues is)) (after_stands f (record { time = 0; micro = 1 }) (record { time = 0; micro = 1 }) 0 fed (inl (omega arith)) (omega arith) (omega arith) (inl refl))
     by_phase Waiting is =
         let s : At = event_of f dues in
-        let goes = event_goes f dues stands.is_fed is due in
-        let counts = count_of f s stands.is_fed goes in
-        subst (λ (g : Fed). Stands g) (sym (granted_waiting f dues is))
-        (after_stands f s _ _ stands goes.time counts.0 counts.1 (cut_cases (f.settings.wait && not (s.time == f.last.time)) s))
+        let goes = event_goes f dues fed is due in
+        let counts = count_of f s fed goes in
+        subst (λ (g : Fed). IsFed g) (sym (granted_waiting f dues is))
+        (after_stands f s _ _ fed goes.time counts.0 counts.1 (cut_cases (f.settings.wait && not (s.time == f.last.time)) s))
     by_phase Created is = let e = rw is at asks in absurd (false≢true e)
     by_phase Initializing is = let e = rw is at asks in absurd (false≢true e)
     by_phase Running is = let e = rw is at asks in absurd (false≢true e)
     by_phase (Ended c) is = let e = rw is at asks in absurd (false≢true e)
 
-pub end_stands : (f : Fed) (c : Cause) → Stands f → is_live f.phase ≡ true → Stands (ended f c [])
-end_stands f c stands live =
-    stands_in f (Ended c) (event_of f []) stands (event_is f [] stands (λ d none. absurd none) (λ e. (let l = rw e at live in absurd (false≢true l)))) (λ e. cc) (λ e. absurd (false≢true e))
+pub end_stands : (f : Fed) (c : Cause) (dues : List At) → IsFed f → Each IsDue dues → is_live f.phase ≡ true → IsFed (ended f c dues)
+end_stands f c dues fed due live =
+    fed_in f (Ended c) (event_of f dues) fed (event_is f dues fed due (λ e. (let l = rw e at live in absurd (false≢true l)))) (λ e. cc) (λ e. absurd (false≢true e))

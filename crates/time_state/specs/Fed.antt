@@ -1,7 +1,7 @@
 -- The time of one federate: its phase, what it was granted last, what it asked for.
 use Rattle.std.specs.Prelude.{ℕ, ◌+◌, ◌^◌, ◌<◌, ◌≤◌, ◌≡◌, Bool, true, false, not, nat_lt, nat_le, ◌==◌, ◌&&◌, ◌||◌, if◌then◌else◌, max, List, [], ◌∷◌, Option, Some, None}
 use Rattle.helics_time.specs.Time.{max_time, horizon}
-use Rattle.helics_time.specs.Stamp.{At, never, before, next_of}
+use Rattle.helics_time.specs.Stamp.{At, never, before, next_of, rank}
 use Rattle.helics_time.specs.Settings.{Terms, IsTerms, up_of, delta_of}
 use Rattle.time_state.specs.declared.TimeRefusal.{TimeRefusal}
 use Rattle.time_state.specs.declared.TimeRefusal.TheVariants.{Ended as RefusedEnded, WrongPhase, PastHorizon}
@@ -130,6 +130,11 @@ is_first Initializing = true
 is_first Entering = true
 is_first p = false
 
+-- a stamp of a federate that hasn't finished
+pub record IsEvent (s : At) : Type 0 where
+  pub time : s.time ≤ max_time
+  pub micro : s.micro ≤ 2 ^ 63
+
 -- what every federate keeps
 pub record IsFed (f : Fed) : Type 0 where
   pub settings : IsTerms f.settings
@@ -141,6 +146,11 @@ pub record IsFed (f : Fed) : Type 0 where
   pub may_iterate : f.phase ≡ Waiting → iterates f.request.mode ≡ true → f.count < f.settings.max_iterations
   pub first : is_first f.phase ≡ true → f.last ≡ zero_stamp
   pub none : is_first f.phase ≡ true → f.count ≡ 0
+  -- the last cut is the stamp of the last grant, or the next stamp
+  pub cut_is : IsEvent f.last_cut
+  pub cut_low : rank f.last ≤ rank f.last_cut
+  pub cut_high : rank f.last_cut ≤ rank f.last + 1
+  pub kept : IsEvent f.kept
 
 -- why a call to enter is refused
 abbrev pub enter_refusal : Fed → Option TimeRefusal

@@ -1,28 +1,14 @@
 -- Laws of one federate's event and cut.
-use Rattle.std.specs.Prelude.{ℕ, ◌+◌, ◌^◌, ◌<◌, ◌≤◌, ◌≡◌, ◌≢◌, ◌⊎◌, true, false, List, [], ◌∷◌, None}
+use Rattle.std.specs.Prelude.{ℕ, ◌<◌, ◌≤◌, ◌≡◌, ◌≢◌, ◌⊎◌, true, false, List, [], ◌∷◌, None}
 use Rattle.helics_time.specs.Time.{max_time}
 use Rattle.helics_time.specs.Stamp.{At, rank, IsDue}
-use Rattle.time_state.specs.Fed.{Fed, IsFed, created, is_live, is_asking, item_stamp, event_of, granted, requested, ended, enter_refusal, request_refusal}
+use Rattle.time_state.specs.Fed.{Fed, IsEvent, IsFed, created, is_live, is_asking, item_stamp, event_of, granted, requested, ended, enter_refusal, request_refusal}
 use Rattle.iteration_rules.specs.declared.Mode.{Mode}
 use Rattle.time_state.specs.declared.Cause.{Cause}
 use Rattle.time_state.specs.declared.Cause.TheVariants.{Finished}
 use Rattle.time_state.specs.declared.Phase.TheVariants.{Created, Initializing, Entering, Running, Waiting, Ended}
 use Rattle.helics_time.specs.Settings.{Terms, IsTerms}
 use Rattle.hel_lists.specs.Members.{IsIn, Each}
-
--- a stamp of a federate that hasn't finished
-pub record IsEvent (s : At) : Type 0 where
-  pub time : s.time ≤ max_time
-  pub micro : s.micro ≤ 2 ^ 63
-
--- what every federate of a run keeps
-pub record Stands (f : Fed) : Type 0 where
-  pub is_fed : IsFed f
-  -- the last cut is the stamp of the last grant, or the next stamp
-  pub cut_is : IsEvent f.last_cut
-  pub cut_low : rank f.last ≤ rank f.last_cut
-  pub cut_high : rank f.last_cut ≤ rank f.last + 1
-  pub kept : IsEvent f.kept
 
 -- its items count
 abbrev pub Counts : Fed → Type 0
@@ -57,15 +43,15 @@ pub record FedLaws : Type 0 where
   pub at_most_each : (f : Fed) (dues : List At) (d : At) → IsFed f → Each IsDue dues → Counts f → IsIn d dues → rank (event_of f dues) ≤ rank (item_stamp f d)
   pub greatest : (f : Fed) (dues : List At) (c : ℕ) → c ≤ rank (event_of f []) → ((d : At) → IsIn d dues → Counts f → c ≤ rank (item_stamp f d)) → c ≤ rank (event_of f dues)
   -- the least due decides
-  pub decides : (f : Fed) (dues : List At) (d : At) → Stands f → Each IsDue dues → IsIn d dues → ((e : At) → IsIn e dues → rank d ≤ rank e) → event_of f dues ≡ event_of f (d ∷ [])
+  pub decides : (f : Fed) (dues : List At) (d : At) → IsFed f → Each IsDue dues → IsIn d dues → ((e : At) → IsIn e dues → rank d ≤ rank e) → event_of f dues ≡ event_of f (d ∷ [])
   -- the event falls at no turn, whatever the items, and stays at a grant and at an end by no call
-  pub turns : (f : Fed) (t : Turn) (dues more : List At) → Stands f → Each IsDue dues → Each IsDue more → MayTurn f t → rank (event_of f dues) ≤ rank (event_of (turned f t) more)
+  pub turns : (f : Fed) (t : Turn) (dues more : List At) → IsFed f → Each IsDue dues → Each IsDue more → MayTurn f t → rank (event_of f dues) ≤ rank (event_of (turned f t) more)
   pub grants : (f : Fed) (dues more : List At) → event_of (granted f dues) more ≡ event_of f dues
   pub ends : (f : Fed) (c : Cause) (dues more : List At) → c ≢ Finished → event_of (ended f c dues) more ≡ event_of f dues
   -- only one that has finished is never to act
-  pub event_is : (f : Fed) (dues : List At) → Stands f → Each IsDue dues → f.phase ≢ Ended Finished → IsEvent (event_of f dues)
+  pub event_is : (f : Fed) (dues : List At) → IsFed f → Each IsDue dues → f.phase ≢ Ended Finished → IsEvent (event_of f dues)
   -- what every federate keeps
-  pub opening : (s : Terms) → IsTerms s → Stands (created s)
-  pub turn_stands : (f : Fed) (t : Turn) → Stands f → MayTurn f t → Stands (turned f t)
-  pub grant_stands : (f : Fed) (dues : List At) → Stands f → Each IsDue dues → is_asking f.phase ≡ true → Stands (granted f dues)
-  pub end_stands : (f : Fed) (c : Cause) → Stands f → is_live f.phase ≡ true → Stands (ended f c [])
+  pub opening : (s : Terms) → IsTerms s → IsFed (created s)
+  pub turn_stands : (f : Fed) (t : Turn) → IsFed f → MayTurn f t → IsFed (turned f t)
+  pub grant_stands : (f : Fed) (dues : List At) → IsFed f → Each IsDue dues → is_asking f.phase ≡ true → IsFed (granted f dues)
+  pub end_stands : (f : Fed) (c : Cause) (dues : List At) → IsFed f → Each IsDue dues → is_live f.phase ≡ true → IsFed (ended f c dues)
