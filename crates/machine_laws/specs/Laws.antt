@@ -1,0 +1,143 @@
+-- Laws of every run.
+use Rattle.std.specs.Prelude.{ℕ, ◌+◌, ◌<◌, ◌≤◌, ◌≡◌, ◌⊎◌, Bool, true, List, [], ◌∷◌, ◌++◌, length}
+use Rattle.std.specs.List.{filter}
+use Rattle.helics_time.specs.Stamp.{At, IsDue, rank}
+use Rattle.helics_time.specs.Settings.{is_lawful, delta_of}
+use Rattle.hel_lists.specs.Members.{IsIn, Each}
+use Rattle.due_queue.specs.Item.{Parcel}
+use Rattle.due_queue.specs.Order.{InOrder}
+use Rattle.iteration_rules.specs.Iteration.{iterates}
+use Rattle.iteration_rules.specs.declared.Kind.TheVariants.{NextStep, Iterating}
+use Rattle.time_state.specs.Fed.{Fed, IsFed, request_stamp, grant_of}
+use Rattle.time_state.specs.declared.Grant.{Grant}
+use Rattle.time_state.specs.declared.Phase.TheVariants.{Entering, Waiting}
+use Rattle.machine_laws.specs.declared.logs.LogEntry.{LogEntry}
+use Rattle.machine_laws.specs.Plan.{Call, Plan, IsPlan}
+use Rattle.machine_laws.specs.Machine.{State, Step, member_at, event_in, cut_in, dues_to, handed_in, items_in, is_to, IsRun, IsLawful, after, opening}
+use Rattle.machine_laws.specs.Machine.Step.{make, grant}
+
+-- what every state of a run keeps
+pub record Keeps (p : Plan) (s : State) : Type 0 where
+  pub feds : (f : ℕ) → IsFed (member_at s f).time
+  pub dues : Each (λ i. IsDue i.due) s.items
+  -- an item's source is its target or an ancestor, and its number has been given out
+  pub sources : Each (λ i. (i.target ≡ i.source) ⊎ IsIn i.source (p.ancestors i.target)) s.items
+  pub numbers : Each (λ i. i.seq < (member_at s i.source).seq) s.items
+  pub ordered : InOrder s.items
+  -- nothing undelivered is due by the last cut
+  pub late : Each (λ i. rank (member_at s i.target).time.last_cut < rank i.due) s.items
+  -- nor will an ancestor send it
+  pub safe : (f a : ℕ) → IsIn a (p.ancestors f) → rank (member_at s f).time.last_cut < rank (p.first a (event_in s a))
+
+abbrev pub RunsKeep : Type 0
+RunsKeep = (p : Plan) (steps : List Step) (end : State) → IsPlan p → IsRun p (opening p) steps end → Keeps p end
+
+-- Nothing late: after a grant of f nothing that is due by its cut is ever undelivered for f.
+abbrev pub NothingLate : Type 0
+NothingLate = (p : Plan) (s t : State) (f : ℕ) (before later : List Step) (i : Parcel) → IsPlan p →
+    IsRun p (opening p) before s → IsLawful p s (grant f) → IsRun p (after p s (grant f)) later t →
+    IsIn i t.items → i.target ≡ f → rank (cut_in s f) < rank i.due
+
+abbrev pub stamp_of : Grant → At
+stamp_of g = record { time = g.time; micro = g.micro }
+
+-- how a grant of a federate stands to its grant before and to what it asked for
+pub record OnGrid (f : Fed) (g : Grant) : Type 0 where
+  pub rises : rank f.last < rank (stamp_of g)
+  pub entry : f.phase ≡ Entering → (g.time ≡ 0) × (g.micro ≡ 1) × (g.kind ≡ NextStep)
+  pub next : f.phase ≡ Waiting → g.kind ≡ NextStep → (is_lawful f.settings g.time ≡ true) × (f.last.time + delta_of f.settings ≤ g.time)
+  pub iterating : g.kind ≡ Iterating → (f.phase ≡ Waiting) × (g.time ≡ f.last.time) × (iterates f.request.mode ≡ true) × (f.count < f.settings.max_iterations)
+  pub uninterruptible : f.phase ≡ Waiting → f.settings.uninterruptible ≡ true → stamp_of g ≡ request_stamp f
+
+-- Grants rise on their grid.
+abbrev pub GrantsOnGrid : Type 0
+GrantsOnGrid = (p : Plan) (s : State) (f : ℕ) (before : List Step) → IsPlan p → IsRun p (opening p) before s → IsLawful p s (grant f) →
+    OnGrid (member_at s f).time (grant_of (member_at s f).time (dues_to s.items f))
+
+abbrev pub Rises : List LogEntry → Type 0
+Rises [] = Unit {0}
+Rises (e ∷ entries) = Each (λ later. rank (stamp_of e.grant) < rank (stamp_of later.grant)) entries × Rises entries
+
+-- So the stamps of each log strictly rise.
+abbrev pub LogsRise : Type 0
+LogsRise = (p : Plan) (s : State) (f : ℕ) (steps : List Step) → IsPlan p → IsRun p (opening p) steps s → Rises (member_at s f).log
+
+-- none of these steps is a grant that reaches the item
+abbrev pub NotReached : Plan → State → List Step → Parcel → Type 0
+NotReached p s [] i = Unit {0}
+NotReached p s (step ∷ steps) i = (step ≡ grant i.target → rank (cut_in s i.target) < rank i.due) × NotReached p (after p s step) steps i
+
+-- At the first grant reaching it: until then an item stays, and that grant hands it over.
+abbrev pub KeptUntilReached : Type 0
+KeptUntilReached = (p : Plan) (s t : State) (before later : List Step) (i : Parcel) → IsPlan p → IsRun p (opening p) before s → IsIn i s.items →
+    IsRun p s later t → NotReached p s later i → IsIn i t.items
+
+abbrev pub HandedWhenReached : Type 0
+HandedWhenReached = (p : Plan) (s : State) (before : List Step) (i : Parcel) → IsPlan p → IsRun p (opening p) before s → IsIn i s.items →
+    IsLawful p s (grant i.target) → rank i.due ≤ rank (cut_in s i.target) → IsIn i (handed_in s i.target)
+
+-- At most once: what a grant hands over was undelivered, and is so never again.
+abbrev pub HandedOnce : Type 0
+HandedOnce = (p : Plan) (s t : State) (f : ℕ) (before later : List Step) (i : Parcel) → IsPlan p → IsRun p (opening p) before s → IsLawful p s (grant f) →
+    IsIn i (handed_in s f) → IsRun p (after p s (grant f)) later t → IsIn i t.items → ⊥
+
+-- What a grant hands over stands in order.
+abbrev pub HandedInOrder : Type 0
+HandedInOrder = (p : Plan) (s : State) (f : ℕ) (before : List Step) → IsPlan p → IsRun p (opening p) before s → InOrder (handed_in s f)
+
+-- an item is handed over in these steps, and only at the first grant that reaches it
+pub record IsHanded (p : Plan) (s : State) (steps : List Step) (end : State) (i : Parcel) : Type 0 where
+  pub first : List Step
+  pub rest : List Step
+  pub at : State
+  pub split : steps ≡ first ++ grant i.target ∷ rest
+  pub run : IsRun p s first at
+  pub far : NotReached p s first i
+  pub reached : rank i.due ≤ rank (cut_in at i.target)
+  pub handed : IsIn i (handed_in at i.target)
+  pub more : IsRun p (after p at (grant i.target)) rest end
+  pub never : IsIn i end.items → ⊥
+
+-- The fate of each item: it stays while no grant reaches it, or it is handed over at the first that does.
+abbrev pub ItemsFates : Type 0
+ItemsFates = (p : Plan) (s end : State) (before steps : List Step) (i : Parcel) → IsPlan p → IsRun p (opening p) before s → IsIn i s.items → IsRun p s steps end →
+    (NotReached p s steps i × IsIn i end.items) ⊎ IsHanded p s steps end i
+
+-- Items come from accepted calls alone, and each accepted call puts in its own.
+pub record FromCalls (p : Plan) (s : State) (step : Step) : Type 0 where
+  pub alone : (i : Parcel) → IsIn i (after p s step).items → IsIn i s.items ⊎ ((f : ℕ) × (call : Call) × (step ≡ make f call) × IsIn i (items_in p s f call))
+  pub each : (f : ℕ) (call : Call) (i : Parcel) → step ≡ make f call → IsIn i (items_in p s f call) → IsIn i (after p s step).items
+
+abbrev pub ItemsFromCalls : Type 0
+ItemsFromCalls = (p : Plan) (s : State) (step : Step) → FromCalls p s step
+
+-- what a step hands over, and what it puts in
+abbrev pub handed_by : State → Step → List Parcel
+handed_by s (grant f) = handed_in s f
+handed_by s step = []
+
+abbrev pub put_by : Plan → State → Step → List Parcel
+put_by p s (make f call) = items_in p s f call
+put_by p s step = []
+
+abbrev pub all_handed : Plan → State → List Step → List Parcel
+all_handed p s [] = []
+all_handed p s (step ∷ steps) = handed_by s step ++ all_handed p (after p s step) steps
+
+abbrev pub all_put : Plan → State → List Step → List Parcel
+all_put p s [] = []
+all_put p s (step ∷ steps) = put_by p s step ++ all_put p (after p s step) steps
+
+-- Nothing is lost or doubled: of each sort of items as many were put in as were handed over and are left.
+abbrev pub ItemsAddUp : Type 0
+ItemsAddUp = (p : Plan) (steps : List Step) (end : State) (sort : Parcel → Bool) → IsRun p (opening p) steps end →
+    length (filter sort (all_put p (opening p) steps)) ≡ length (filter sort (all_handed p (opening p) steps)) + length (filter sort end.items)
+
+abbrev pub logged_items : List LogEntry → List Parcel
+logged_items [] = []
+logged_items (e ∷ entries) = e.items ++ logged_items entries
+
+-- The logs hold all that was handed over, in order: each federate's log what was for it.
+abbrev pub LogsHold : Type 0
+LogsHold = (p : Plan) (steps : List Step) (end : State) (f : ℕ) → IsPlan p → IsRun p (opening p) steps end →
+    logged_items (member_at end f).log ≡ filter (is_to f) (all_handed p (opening p) steps)
