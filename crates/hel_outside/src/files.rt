@@ -1,0 +1,41 @@
+ghost use Rattle.std.specs.Prelude.{◌≡◌, ◌≢◌, ◌≤◌, ◌<◌, ℕ, List, Option, length, IfOk, IfSome};
+ghost use Rattle.hel_outside.specs.Faults.{Rose, file_limit};
+
+use std::alloc::Global;
+
+/// Why a file isn't read.
+#[derive(Clone, Copy, Debug, PartialEq, Eq)]
+pub enum FileRefusal {
+    /// The files failed, and their count of faults rose.
+    Failed,
+    /// The file is longer than 16,777,216 bytes.
+    TooLarge,
+    OutOfMemory,
+}
+
+/// Files by their paths.
+pub trait Files {
+    /// How often a call has failed. The count stands still at its type's end.
+    ghost faults: { Self → ℕ };
+
+    /// What stands at a path, where the object tells it.
+    ghost content: { Self → List ℕ → Option (List ℕ) };
+
+    /// The path of the last read that failed.
+    ghost failed_path: { Self → List ℕ };
+
+    /// The whole file at a path, of at most 16,777,216 bytes.
+    fn read(&mut self, alloc: Global, path: &str) -> Result<Vec<u8>, FileRefusal>
+        ensures bytes { IfOk result (λ v. IfSome (content self.old path.now) (λ told. v.items ≡ told)) }
+        ensures small { IfOk result (λ v. length v.items ≤ file_limit) }
+        ensures large { result ≡ Err FileRefusal.TooLarge →
+            IfSome (content self.old path.now) (λ told. file_limit < length told) }
+        ensures same { (p : List ℕ) → content self.new p ≡ content self.old p }
+
+        // A call answers Failed only where the count rose, and only such a call changes the count and the kept path.
+        ensures rose { result ≡ Err FileRefusal.Failed → Rose (faults self.old) (faults self.new) }
+        ensures kept { result ≡ Err FileRefusal.Failed → failed_path self.new ≡ path.now }
+        ensures later { faults self.old ≤ faults self.new }
+        ensures quiet { result ≢ Err FileRefusal.Failed → faults self.new ≡ faults self.old }
+        ensures stays { result ≢ Err FileRefusal.Failed → failed_path self.new ≡ failed_path self.old };
+}
