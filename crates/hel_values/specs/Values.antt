@@ -1,4 +1,7 @@
--- Values and their kinds.
+-- Values, their kinds and whether two are the same.
+use Rattle.std.specs.Prelude.{Bool, false}
+use Rattle.std.specs.Ordering.{int_eq}
+use Rattle.std.specs.Str.{bytes_eq}
 use Rattle.hel_values.specs.declared.Value.{Value}
 use Rattle.hel_values.specs.declared.Value.TheVariants.{Int as IntValue, Text as TextValue, Bytes as BytesValue}
 use Rattle.hel_values.specs.declared.ValueKind.{ValueKind}
@@ -9,3 +12,10 @@ abbrev pub kind_of : Value → ValueKind
 kind_of (IntValue n) = Int
 kind_of (TextValue t) = Text
 kind_of (BytesValue b) = Bytes
+
+-- they are of one kind and hold the same
+abbrev pub same_value : Value → Value → Bool
+same_value (IntValue n) (IntValue m) = int_eq n m
+same_value (TextValue t) (TextValue u) = bytes_eq t u
+same_value (BytesValue b) (BytesValue c) = bytes_eq b c
+same_value v w = false
