@@ -1,13 +1,16 @@
-//! Modes of requests and kinds of grants, and the limit of iterations.
+//! Modes of requests and kinds of grants, and the limit of iterations (docs/RULES.md, Iterations).
 #![tactic(auto)]
 
 ghost use Rattle.std.specs.Prelude.{◌≡◌};
 ghost use Rattle.iteration_rules.specs.Iteration.{effective};
 
+#[cfg(test)]
+mod tests;
+
 /// How a federate asks for a time.
 #[derive(Clone, Copy, Debug, PartialEq, Eq)]
 pub enum Mode {
-    /// A time after the last grant's.
+    /// A time after that of the last grant.
     Next,
     /// Another micro step at the time of the last grant, whatever arrives.
     Force,
