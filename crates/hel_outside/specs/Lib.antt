@@ -1,1 +1,4 @@
 pub mod Faults
+pub mod Calls
+pub mod MemFiles
+pub mod MemSink

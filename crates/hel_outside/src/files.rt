@@ -1,7 +1,10 @@
 ghost use Rattle.std.specs.Prelude.{◌≡◌, ◌≢◌, ◌≤◌, ◌<◌, ℕ, List, Option, length, IfOk, IfSome};
 ghost use Rattle.hel_outside.specs.Faults.{Rose, file_limit};
 
-use std::alloc::Global;
+use std::alloc::{AllocError, Global};
+
+/// The greatest length of a file that is read.
+pub(crate) const FILE_LIMIT: usize = 16_777_216;
 
 /// Why a file isn't read.
 #[derive(Clone, Copy, Debug, PartialEq, Eq)]
@@ -11,6 +14,17 @@ pub enum FileRefusal {
     /// The file is longer than 16,777,216 bytes.
     TooLarge,
     OutOfMemory,
+}
+
+impl From<AllocError> for FileRefusal {
+    ghost use Rattle.std.specs.Prelude.{◌≡◌};
+    ghost use Rattle.hel_outside.specs.declared.files.FileRefusal.{FileRefusal};
+
+    ghost from_gives = { λ _ e. e ≡ FileRefusal.OutOfMemory };
+
+    fn from(_: AllocError) -> Self {
+        FileRefusal::OutOfMemory
+    }
 }
 
 /// Files by their paths.

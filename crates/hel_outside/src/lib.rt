@@ -2,7 +2,15 @@
 #![tactic(auto)]
 
 mod files;
+mod mem_files;
+mod mem_sink;
+mod real_files;
 mod sink;
+mod std_sink;
 
 pub use files::{FileRefusal, Files};
+pub use mem_files::{MemFile, MemFiles};
+pub use mem_sink::MemSink;
+pub use real_files::RealFiles;
 pub use sink::{Failed, Sink, write_all};
+pub use std_sink::StdSink;

@@ -1,0 +1,65 @@
+ghost use Rattle.std.specs.Prelude.{◌≡◌, ◌≤◌, [], string_bytes, None};
+
+use crate::files::{FILE_LIMIT, FileRefusal, Files};
+use std::alloc::Global;
+use std::fs::File;
+use std::io::{ErrorKind, Read};
+use std::{io, rt};
+
+/// The files of the system. It counts its errors, and tells nothing of what it holds.
+#[derive(Drop)]
+pub struct RealFiles<R> {
+    runtime: R,
+    faults: u64,
+    failed_path: String,
+}
+
+impl<R: rt::Files + Drop> RealFiles<R> {
+    pub fn new(alloc: Global, runtime: R) -> RealFiles<R> {
+        RealFiles {
+            runtime,
+            faults: 0,
+            failed_path: String::new(alloc),
+        }
+    }
+
+    /// How many reads have failed.
+    pub fn faults(&self) -> u64 {
+        self.faults
+    }
+
+    /// The path of the last read that failed, and an empty one before the first.
+    pub fn failed_path(&self) -> &str {
+        self.failed_path.as_str()
+    }
+}
+
+impl<R: rt::Files + Drop> Files for RealFiles<R> {
+    ghost faults = { λ s. s.faults };
+
+    ghost content = { λ _ _. None };
+
+    ghost failed_path = { λ s. string_bytes s.failed_path };
+
+    fn read(&mut self, alloc: Global, path: &str) -> Result<Vec<u8>, FileRefusal> {
+        let asked = String::from_str(alloc, path)?;
+        match first_bytes(alloc, &self.runtime, path) {
+            Ok(bytes) if bytes.len() > FILE_LIMIT => Err(FileRefusal::TooLarge),
+            Ok(bytes) => Ok(bytes),
+            Err(e) if e.kind() == ErrorKind::OutOfMemory => Err(FileRefusal::OutOfMemory),
+            Err(_) => {
+                self.faults = self.faults.saturating_add(1);
+                self.failed_path = asked;
+                Err(FileRefusal::Failed)
+            }
+        }
+    }
+}
+
+// The bytes of a file, up to one more than are taken.
+fn first_bytes<R: rt::Files>(alloc: Global, runtime: &R, path: &str) -> io::Result<Vec<u8>> {
+    let mut bytes = Vec::new(alloc);
+    let file = File::open(runtime, path)?;
+    file.take(FILE_LIMIT as u64 + 1).read_to_end(&mut bytes)?;
+    Ok(bytes)
+}

@@ -1,0 +1,39 @@
+ghost use Rattle.std.specs.Prelude.{◌≡◌, None};
+
+use crate::sink::{Failed, Sink};
+use std::io::Write;
+
+/// A stream of the process, as `rt.stdout()` or `rt.stderr()`. It counts its errors, and tells
+/// nothing of what was written.
+#[derive(Drop)]
+pub struct StdSink<W> {
+    stream: W,
+    faults: u64,
+}
+
+impl<W: Write + Drop> StdSink<W> {
+    pub fn new(stream: W) -> StdSink<W> {
+        StdSink { stream, faults: 0 }
+    }
+
+    /// How many calls have failed.
+    pub fn faults(&self) -> u64 {
+        self.faults
+    }
+}
+
+impl<W: Write + Drop> Sink for StdSink<W> {
+    ghost faults = { λ s. s.faults };
+
+    ghost written = { λ _. None };
+
+    fn write(&mut self, bytes: &[u8]) -> Result<usize, Failed> {
+        match self.stream.write(bytes) {
+            Ok(taken) if taken > 0 || bytes.is_empty() => Ok(taken),
+            _ => {
+                self.faults = self.faults.saturating_add(1);
+                Err(Failed)
+            }
+        }
+    }
+}
