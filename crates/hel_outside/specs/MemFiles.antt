@@ -1,5 +1,5 @@
 -- Files in memory.
-use Rattle.std.specs.Prelude.{ℕ, List, Option, None, find, if◌then◌else◌}
+use Rattle.std.specs.Prelude.{ℕ, List, [], Option, None, find, if◌then◌else◌}
 use Rattle.std.specs.Option.{option_map}
 use Rattle.std.specs.Str.{bytes_eq}
 use Rattle.hel_outside.specs.Calls.{counted, is_listed}
@@ -13,6 +13,10 @@ pub record FilesInMemory : Type 0 where
   pub faults : ℕ
   -- the path of the last read that failed
   pub failed_path : List ℕ
+
+-- files that were just made
+abbrev pub new_files : List MemFile → List ℕ → FilesInMemory
+new_files files failing = record { files = files; failing = failing; calls = 0; faults = 0; failed_path = [] }
 
 -- what stands at a path: the bytes of the first file that has it
 abbrev pub content_at : List MemFile → List ℕ → Option (List ℕ)

@@ -1,5 +1,5 @@
 -- A sink in memory.
-use Rattle.std.specs.Prelude.{ℕ, ◌-◌, ◌==◌, ◌++◌, Bool, ◌&&◌, ◌||◌, List, length, take, min, nat_lt}
+use Rattle.std.specs.Prelude.{ℕ, ◌-◌, ◌==◌, ◌++◌, Bool, ◌&&◌, ◌||◌, List, [], length, take, min, nat_lt}
 use Rattle.hel_outside.specs.Calls.{counted, is_listed}
 
 pub record SinkInMemory : Type 0 where
@@ -11,6 +11,10 @@ pub record SinkInMemory : Type 0 where
   pub failing : List ℕ
   pub calls : ℕ
   pub faults : ℕ
+
+-- a sink that was just made
+abbrev pub new_sink : ℕ → List ℕ → SinkInMemory
+new_sink room failing = record { bytes = []; room = room; failing = failing; calls = 0; faults = 0 }
 
 -- the next write fails: it is listed, or none of its bytes fits
 abbrev pub write_fails : SinkInMemory → List ℕ → Bool

@@ -7,6 +7,8 @@ mod mem_sink;
 mod real_files;
 mod sink;
 mod std_sink;
+#[cfg(test)]
+mod tests;
 
 pub use files::{FileRefusal, Files};
 pub use mem_files::{MemFile, MemFiles};

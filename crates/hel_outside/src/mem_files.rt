@@ -3,7 +3,7 @@ ghost use Rattle.std.specs.Option.{option_map, option_copied};
 ghost use Rattle.std.specs.List.{list_any};
 ghost use Rattle.std.specs.Str.{bytes_eq};
 ghost use Rattle.hel_outside.specs.Faults.{file_limit};
-ghost use Rattle.hel_outside.specs.MemFiles.{content_at, found_at, after_read, after_fault};
+ghost use Rattle.hel_outside.specs.MemFiles.{new_files, content_at, found_at, after_read, after_fault};
 
 use crate::files::{FILE_LIMIT, FileRefusal, Files};
 use hel_lists::{Items, OutOfMemory, Text};
@@ -45,7 +45,8 @@ impl MemFiles {
         files: &[(&str, &[u8])],
         failing: &[u64],
     ) -> Result<MemFiles, OutOfMemory>
-        ensures { IfOk result (λ s. s ≡ record { files = map (λ f. record { path = f.0.now; bytes = f.1.now }) files.now; failing = failing.now; calls = 0; faults = 0; failed_path = [] }) }
+        ensures { IfOk result (λ made. made ≡ new_files
+            (map (λ f. record { path = f.0.now; bytes = f.1.now }) files.now) failing.now) }
     {
         Ok(MemFiles {
             files: copied_files(alloc, files)?,

@@ -1,5 +1,5 @@
 ghost use Rattle.std.specs.Prelude.{◌≡◌, ◌≤◌, ◌↔◌, [], length, take, IsTrue, IsErr, IfOk, OnErr, Some};
-ghost use Rattle.hel_outside.specs.MemSink.{write_fails, fitting, after_write, after_fault};
+ghost use Rattle.hel_outside.specs.MemSink.{new_sink, write_fails, fitting, after_write, after_fault};
 
 use crate::sink::{Failed, Sink};
 use hel_lists::OutOfMemory;
@@ -32,7 +32,7 @@ impl Model for MemSink {
 impl MemSink {
     /// A sink with room for so many bytes, whose calls of these numbers are to fail.
     pub fn new(alloc: Global, room: usize, failing: &[u64]) -> Result<MemSink, OutOfMemory>
-        ensures { IfOk result (λ s. s ≡ record { bytes = []; room = room; failing = failing.now; calls = 0; faults = 0 }) }
+        ensures { IfOk result (λ made. made ≡ new_sink room failing.now) }
     {
         let bytes = Vec::with_capacity(alloc, room)?;
         let failing = failing.to_vec(alloc)?;

@@ -1,9 +1,11 @@
-ghost use Rattle.std.specs.Prelude.{◌≡◌, ◌≤◌, [], string_bytes, None};
+ghost use Rattle.std.specs.Prelude.{◌≡◌, None};
+ghost use Rattle.hel_outside.specs.RealFiles.{no_fault};
 
 use crate::files::{FILE_LIMIT, FileRefusal, Files};
 use std::alloc::Global;
 use std::fs::File;
 use std::io::{ErrorKind, Read};
+use std::marker::Model;
 use std::{io, rt};
 
 /// The files of the system. It counts its errors, and tells nothing of what it holds.
@@ -14,8 +16,20 @@ pub struct RealFiles<R> {
     failed_path: String,
 }
 
-impl<R: rt::Files + Drop> RealFiles<R> {
-    pub fn new(alloc: Global, runtime: R) -> RealFiles<R> {
+impl<R> Model for RealFiles<R> {
+    ghost use Rattle.std.specs.Prelude.{string_bytes};
+    ghost use Rattle.hel_outside.specs.RealFiles.{FilesFaults};
+
+    ghost Value = { FilesFaults };
+
+    ghost view = { λ s. record { faults = s.faults; failed_path = string_bytes s.failed_path } };
+}
+
+impl<R> RealFiles<R> {
+    /// The files of a runtime, such as the `rt` of `main`.
+    pub fn new(alloc: Global, runtime: R) -> RealFiles<R>
+        ensures { result ≡ no_fault }
+    {
         RealFiles {
             runtime,
             faults: 0,
@@ -24,12 +38,16 @@ impl<R: rt::Files + Drop> RealFiles<R> {
     }
 
     /// How many reads have failed.
-    pub fn faults(&self) -> u64 {
+    pub fn faults(&self) -> u64
+        ensures { result ≡ self.now.faults }
+    {
         self.faults
     }
 
     /// The path of the last read that failed, and an empty one before the first.
-    pub fn failed_path(&self) -> &str {
+    pub fn failed_path(&self) -> &str
+        ensures { result.now ≡ self.now.failed_path }
+    {
         self.failed_path.as_str()
     }
 }
@@ -39,7 +57,7 @@ impl<R: rt::Files + Drop> Files for RealFiles<R> {
 
     ghost content = { λ _ _. None };
 
-    ghost failed_path = { λ s. string_bytes s.failed_path };
+    ghost failed_path = { λ s. s.failed_path };
 
     fn read(&mut self, alloc: Global, path: &str) -> Result<Vec<u8>, FileRefusal> {
         let asked = String::from_str(alloc, path)?;

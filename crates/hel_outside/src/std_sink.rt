@@ -2,28 +2,41 @@ ghost use Rattle.std.specs.Prelude.{◌≡◌, None};
 
 use crate::sink::{Failed, Sink};
 use std::io::Write;
+use std::marker::Model;
 
 /// A stream of the process, as `rt.stdout()` or `rt.stderr()`. It counts its errors, and tells
-/// nothing of what was written.
+/// nothing of what was written: contracts see the count alone.
 #[derive(Drop)]
 pub struct StdSink<W> {
     stream: W,
     faults: u64,
 }
 
-impl<W: Write + Drop> StdSink<W> {
-    pub fn new(stream: W) -> StdSink<W> {
+impl<W> Model for StdSink<W> {
+    ghost use Rattle.std.specs.Prelude.{ℕ};
+
+    ghost Value = { ℕ };
+
+    ghost view = { λ s. s.faults };
+}
+
+impl<W> StdSink<W> {
+    pub fn new(stream: W) -> StdSink<W>
+        ensures { result ≡ 0 }
+    {
         StdSink { stream, faults: 0 }
     }
 
     /// How many calls have failed.
-    pub fn faults(&self) -> u64 {
+    pub fn faults(&self) -> u64
+        ensures { result ≡ self.now }
+    {
         self.faults
     }
 }
 
 impl<W: Write + Drop> Sink for StdSink<W> {
-    ghost faults = { λ s. s.faults };
+    ghost faults = { λ s. s };
 
     ghost written = { λ _. None };
 
