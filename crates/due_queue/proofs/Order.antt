@@ -6,18 +6,13 @@ use Rattle.std.proofs.lemmas.Bool.{cases_Bool, true≢false, false≢true}
 use Rattle.std.proofs.lemmas.Bool.Decides.{nat_tests}
 use Rattle.hel_lists.specs.Members.{IsIn, Each}
 use Rattle.hel_lists.proofs.Members.{in_filter, filter_holds, filter_fails}
+use Rattle.due_queue.specs.Sorted.{IsWeakOrder}
+use Rattle.due_queue.proofs.Sorted.{in_insert_by, insert_by_first, insert_by_later, insert_by_front, filter_in_order, before_each, insert_by_in_order}
 use Rattle.due_queue.specs.Item.{Parcel}
-use Rattle.due_queue.specs.Order.{key, lex, comes_before, insert, insert_all, InOrder}
+use Rattle.due_queue.specs.Order.{key, due_key, lex, is_sooner, comes_before, insert, insert_all, InOrder}
 
 pub in_insert : (i : Parcel) (xs : List Parcel) (x : Parcel) → IsIn x (insert i xs) → (x ≡ i) ⊎ IsIn x xs
-in_insert i [] x among = among
-in_insert i (y ∷ ys) x among = elim (cases_Bool (comes_before i y)) [
-  | inl holds ↦ rw holds at among
-  | inr fails ↦ let cut = rw fails at among in elim cut [
-    | inl here ↦ inr (inl here)
-    | inr later ↦ elim (in_insert i ys x later) [ inl new ↦ inl new | inr old ↦ inr (inr old) ]
-  ]
-]
+in_insert i xs x among = in_insert_by comes_before i xs x among
 
 pub insert_new : (i : Parcel) (xs : List Parcel) → IsIn i (insert i xs)
 insert_new i [] = inl refl
@@ -77,6 +72,33 @@ lex_total (x ∷ xs) (y ∷ ys) a b =
     step : (x y : ℕ) (p q : Bool) → (nat_lt x y || (x == y && p)) ≡ false → (nat_lt y x || (y == x && q)) ≡ false → (x ≡ y) × (p ≡ false) × (q ≡ false)
     step x y p q a b = (grind (arith, nat_tests), grind (arith, nat_tests), grind (arith, nat_tests))
 
+lex_one_way : (xs ys : List ℕ) → lex xs ys ≡ true → lex ys xs ≡ false
+lex_one_way xs ys first = elim (cases_Bool (lex ys xs)) [ inl back ↦ absurd (true≢false (sym (lex_trans xs ys xs first back) ∙ lex_same xs)) | inr fails ↦ fails ]
+
+lex_past : (xs ys zs : List ℕ) → lex xs ys ≡ true → lex zs ys ≡ false → lex xs zs ≡ true
+lex_past xs ys zs first past = elim (cases_Bool (lex xs zs)) [
+  | inl holds ↦ holds
+  | inr fails ↦ elim (cases_Bool (lex zs xs)) [
+    | inl back ↦ absurd (true≢false (sym (lex_trans zs xs ys back first) ∙ past))
+    | inr neither ↦ absurd (true≢false (sym first ∙ ap (λ (l : List ℕ). lex l ys) (lex_total xs zs fails neither) ∙ past))
+  ]
+]
+
+lex_head : (x y : ℕ) (xs ys : List ℕ) → x ≡ y → lex (x ∷ xs) (y ∷ ys) ≡ lex xs ys
+lex_head x y xs ys same = step x y (lex xs ys) same
+  where
+    step : (x y : ℕ) (p : Bool) → x ≡ y → (nat_lt x y || (x == y && p)) ≡ p
+    step x y p same = grind (arith, nat_tests)
+
+-- both orders are orders of places, and in each only those of one place aren't before one another
+pub comes_before_order : IsWeakOrder comes_before
+unfolding comes_before
+comes_before_order = record { one_way = λ i j. lex_one_way (key i) (key j); past = λ i x y. lex_past (key i) (key x) (key y) }
+
+pub is_sooner_order : IsWeakOrder is_sooner
+unfolding is_sooner
+is_sooner_order = record { one_way = λ i j. lex_one_way (due_key i) (due_key j); past = λ i x y. lex_past (due_key i) (due_key x) (due_key y) }
+
 pub before_same : (i : Parcel) → comes_before i i ≡ false
 unfolding comes_before
 before_same i = lex_same (key i)
@@ -89,58 +111,30 @@ pub before_total : (i j : Parcel) → comes_before i j ≡ false → comes_befor
 unfolding comes_before
 before_total i j a b = lex_total (key i) (key j) a b
 
+pub sooner_total : (i j : Parcel) → is_sooner i j ≡ false → is_sooner j i ≡ false → due_key i ≡ due_key j
+unfolding is_sooner
+sooner_total i j a b = lex_total (due_key i) (due_key j) a b
+
 pub before_not_both : (i j : Parcel) → comes_before i j ≡ true → comes_before j i ≡ true → ⊥
-before_not_both i j a b = absurd (true≢false (sym (before_trans i j i a b) ∙ before_same i))
+before_not_both i j a b = absurd (true≢false (sym b ∙ comes_before_order.one_way i j a))
 
-before_like : (i j k : Parcel) → key i ≡ key j → comes_before i k ≡ comes_before j k
-unfolding comes_before
-before_like i j k same = ap (λ (l : List ℕ). lex l (key k)) same
-
--- what comes before x comes before what doesn't come before x
-before_past : (i x y : Parcel) → comes_before i x ≡ true → comes_before y x ≡ false → comes_before i y ≡ true
-before_past i x y first past = elim (cases_Bool (comes_before i y)) [
-  | inl holds ↦ holds
-  | inr fails ↦ elim (cases_Bool (comes_before y i)) [
-    | inl back ↦ absurd (true≢false (sym (before_trans y i x back first) ∙ past))
-    | inr neither ↦ absurd (true≢false (sym first ∙ before_like i y x (before_total i y fails neither) ∙ past))
-  ]
-]
-
-not_before : (i x : Parcel) → comes_before i x ≡ true → comes_before x i ≡ false
-not_before i x first = elim (cases_Bool (comes_before x i)) [ inl back ↦ absurd (before_not_both i x first back) | inr fails ↦ fails ]
+-- among the items to one federate the two orders are one
+pub one_target : (i j : Parcel) → i.target ≡ j.target → comes_before i j ≡ is_sooner i j
+unfolding comes_before is_sooner
+one_target i j same = lex_head i.target j.target (due_key i) (due_key j) same
 
 pub insert_ordered : (i : Parcel) (xs : List Parcel) → InOrder xs → InOrder (insert i xs)
-insert_ordered i [] order = ((λ j none. absurd none), tt)
-insert_ordered i (x ∷ xs) order = elim (cases_Bool (comes_before i x)) [
-  | inl holds ↦ rw holds (
-    (λ j among. elim among [
-      | inl here ↦ ap (λ (k : Parcel). comes_before k i) here ∙ not_before i x holds
-      | inr later ↦ not_before i j (before_past i x j holds (order.0 j later))
-    ]),
-    order,
-  )
-  | inr fails ↦
-      rw fails (
-        (λ j among. elim (in_insert i xs j among) [ inl here ↦ ap (λ (k : Parcel). comes_before k x) here ∙ fails | inr old ↦ order.0 j old ]),
-        insert_ordered i xs order.1,
-      )
-]
+insert_ordered i xs order = insert_by_in_order comes_before comes_before_order i xs order
 
 pub filter_ordered : (p : Parcel → Bool) (xs : List Parcel) → InOrder xs → InOrder (filter p xs)
-filter_ordered p [] order = tt
-filter_ordered p (x ∷ xs) order =
-    let more = filter_ordered p xs order.1 in
-    elim (p x) as (λ b. InOrder (if b then x ∷ filter p xs else filter p xs)) [
-      | true ↦ ((λ j among. order.0 j (in_filter p xs j among).0), more)
-      | false ↦ more
-    ]
+filter_ordered p xs order = filter_in_order comes_before p xs order
 
 -- two insertions commute
 pub insert_first : (i x : Parcel) (xs : List Parcel) → comes_before i x ≡ true → insert i (x ∷ xs) ≡ i ∷ x ∷ xs
-insert_first i x xs holds = rw holds refl
+insert_first i x xs holds = insert_by_first comes_before i x xs holds
 
 pub insert_later : (i x : Parcel) (xs : List Parcel) → comes_before i x ≡ false → insert i (x ∷ xs) ≡ x ∷ insert i xs
-insert_later i x xs fails = rw fails refl
+insert_later i x xs fails = insert_by_later comes_before i x xs fails
 
 -- both before a list
 two : (i j : Parcel) (xs : List Parcel) → (key i ≡ key j → i ≡ j) → insert i xs ≡ i ∷ xs → insert j xs ≡ j ∷ xs → insert i (j ∷ xs) ≡ insert j (i ∷ xs)
@@ -208,19 +202,12 @@ filter_skips q i (x ∷ xs) fails = elim (cases_Bool (comes_before i x)) [
       ]
 ]
 
-insert_front : (i : Parcel) (ys : List Parcel) → Each (λ y. comes_before i y ≡ true) ys → insert i ys ≡ i ∷ ys
-insert_front i [] each = refl
-insert_front i (y ∷ ys) each = insert_first i y ys (each y (inl refl))
-
 pub filter_inserts : (q : Parcel → Bool) (i : Parcel) (xs : List Parcel) → InOrder xs → q i ≡ true → filter q (insert i xs) ≡ insert i (filter q xs)
 filter_inserts q i [] order holds = filter_holds q i [] holds
 filter_inserts q i (x ∷ xs) order holds = elim (cases_Bool (comes_before i x)) [
   | inl first ↦
       ap (filter q) (insert_first i x xs first) ∙ filter_holds q i (x ∷ xs) holds
-      ∙ sym (insert_front i (filter q (x ∷ xs)) (λ y among. elim (in_filter q (x ∷ xs) y among).0 [
-        | inl here ↦ ap (comes_before i) here ∙ first
-        | inr later ↦ before_past i x y first (order.0 y later)
-      ]))
+      ∙ sym (insert_by_front comes_before i (filter q (x ∷ xs)) (λ y among. before_each comes_before comes_before_order i x xs order first y (in_filter q (x ∷ xs) y among).0))
   | inr later ↦
       let more = filter_inserts q i xs order.1 holds in
       ap (filter q) (insert_later i x xs later) ∙ elim (cases_Bool (q x)) [

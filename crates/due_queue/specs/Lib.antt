@@ -1,2 +1,4 @@
 pub mod Item
 pub mod Order
+pub mod Sameness
+pub mod Sorted
