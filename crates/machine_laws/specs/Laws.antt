@@ -1,5 +1,5 @@
 -- Laws of every run.
-use Rattle.std.specs.Prelude.{ℕ, ◌+◌, ◌<◌, ◌≤◌, ◌≡◌, ◌⊎◌, Bool, true, List, [], ◌∷◌, ◌++◌, length}
+use Rattle.std.specs.Prelude.{ℕ, ◌+◌, ◌<◌, ◌≤◌, ◌≡◌, ◌⊎◌, Bool, true, List, [], ◌∷◌, ◌++◌, length, slice_index_or}
 use Rattle.std.specs.List.{filter}
 use Rattle.helics_time.specs.Stamp.{At, IsDue, rank}
 use Rattle.helics_time.specs.Settings.{is_lawful, delta_of}
@@ -7,13 +7,14 @@ use Rattle.hel_lists.specs.Members.{IsIn, Each}
 use Rattle.due_queue.specs.Item.{Parcel}
 use Rattle.due_queue.specs.Order.{InOrder}
 use Rattle.iteration_rules.specs.Iteration.{iterates}
+use Rattle.iteration_rules.specs.declared.Kind.{Kind}
 use Rattle.iteration_rules.specs.declared.Kind.TheVariants.{NextStep, Iterating}
-use Rattle.time_state.specs.Fed.{Fed, IsFed, request_stamp, grant_of}
+use Rattle.time_state.specs.Fed.{Fed, IsFed, zero_stamp, request_stamp, grant_of}
 use Rattle.time_state.specs.declared.Grant.{Grant}
 use Rattle.time_state.specs.declared.Phase.TheVariants.{Entering, Waiting}
 use Rattle.machine_laws.specs.declared.logs.LogEntry.{LogEntry}
 use Rattle.machine_laws.specs.Plan.{Call, Plan, IsPlan}
-use Rattle.machine_laws.specs.Machine.{State, Step, member_at, event_in, cut_in, dues_to, handed_in, items_in, is_to, IsRun, IsLawful, after, opening}
+use Rattle.machine_laws.specs.Machine.{State, Step, default_terms, member_at, event_in, cut_in, dues_to, handed_in, items_in, is_to, IsRun, IsLawful, after, opening}
 use Rattle.machine_laws.specs.Machine.Step.{make, grant}
 
 -- what every state of a run keeps
@@ -61,6 +62,30 @@ Rises (e ∷ entries) = Each (λ later. rank (stamp_of e.grant) < rank (stamp_of
 -- So the stamps of each log strictly rise.
 abbrev pub LogsRise : Type 0
 LogsRise = (p : Plan) (s : State) (f : ℕ) (steps : List Step) → IsPlan p → IsRun p (opening p) steps s → Rises (member_at s f).log
+
+-- the stamp of the last grant of a log, after this one
+abbrev pub last_stamp : At → List LogEntry → At
+last_stamp s [] = s
+last_stamp s (e ∷ entries) = last_stamp (stamp_of e.grant) entries
+
+abbrev pub iterating_after : ℕ → Kind → ℕ
+iterating_after count Iterating = count + 1
+iterating_after count NextStep = 0
+
+-- how many grants at the end of a log are iterating, after so many
+abbrev pub iterating_last : ℕ → List LogEntry → ℕ
+iterating_last count [] = count
+iterating_last count (e ∷ entries) = iterating_last (iterating_after count e.grant.kind) entries
+
+-- what a federate keeps of its settings and its grants is what the plan and its log tell
+pub record LogTells (p : Plan) (s : State) (f : ℕ) : Type 0 where
+  pub settings : (member_at s f).time.settings ≡ slice_index_or p.settings f default_terms
+  pub last : (member_at s f).time.last ≡ last_stamp zero_stamp (member_at s f).log
+  pub count : (member_at s f).time.count ≡ iterating_last 0 (member_at s f).log
+
+-- So the grant before, its settings and the iterating grants since the time last rose are those that `OnGrid` speaks of.
+abbrev pub LogsTell : Type 0
+LogsTell = (p : Plan) (s : State) (f : ℕ) (steps : List Step) → IsPlan p → IsRun p (opening p) steps s → LogTells p s f
 
 -- none of these steps is a grant that reaches the item
 abbrev pub NotReached : Plan → State → List Step → Parcel → Type 0

@@ -4,3 +4,4 @@ pub mod Machine
 pub mod Laws
 pub mod First
 pub mod Moves
+pub mod Example

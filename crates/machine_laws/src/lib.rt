@@ -1,8 +1,13 @@
 //! The machine in one place as definitions, and laws of all its runs.
 #![tactic(auto)]
 
+mod laws;
 mod logs;
 mod refusal;
 
+pub use laws::{
+    diamond, first_laws, grants_on_grid, handed_at_first_reaching, items_add_up, items_from_calls,
+    moves_run, nothing_late, one_answer, one_end, pair_runs, reference_logs, runs_keep,
+};
 pub use logs::{FedLog, LogEnd, LogEntry, Logs};
 pub use refusal::{CallRefusal, Unlawful};

@@ -1,0 +1,210 @@
+-- Grants rise on their grid, and the logs tell of them.
+use Rattle.std.proofs.Common.{◌≡◌, ◌⊎◌, inl, inr, ℕ, zero, suc, ◌+◌, ◌<◌, ◌≤◌, Bool, true, false, arith, refl, sym, ◌∙◌, ap, subst, List, [], ◌∷◌, ◌++◌, get_or}
+use Rattle.std.specs.Prelude.{◌==◌, if◌then◌else◌, map}
+use Rattle.std.proofs.lemmas.Bool.{eqb-true, false≢true}
+use Rattle.std.proofs.lemmas.Bool.Decides.{nat_tests}
+use Rattle.helics_time.specs.Stamp.{At, IsDue, rank}
+use Rattle.helics_time.specs.Settings.{Terms}
+use Rattle.hel_lists.specs.Members.{IsIn, Each}
+use Rattle.due_queue.specs.Item.{Parcel}
+use Rattle.iteration_rules.specs.declared.Kind.TheVariants.{NextStep, Iterating}
+use Rattle.time_state.specs.Fed.{Fed, IsFed, zero_stamp, event_of, is_asking, is_iterating, request_stamp, grant_of, least_with}
+use Rattle.time_state.specs.declared.Phase.{Phase}
+use Rattle.time_state.specs.declared.Phase.TheVariants.{Entering, Waiting}
+use Rattle.time_state.proofs.Events.{event_waiting}
+use Rattle.time_state.proofs.Stamps.{iterating_waits}
+use Rattle.time_state.proofs.Turns.{event_goes, event_steps}
+use Rattle.machine_laws.specs.declared.logs.LogEntry.{LogEntry}
+use Rattle.machine_laws.specs.Plan.{Plan, IsPlan}
+use Rattle.machine_laws.specs.Machine.{Member, State, Step, member_at, blank_member, default_terms, new_member, opening, dues_to, granted_member, IsLawful, after, IsRun}
+use Rattle.machine_laws.specs.Machine.Step.{make, grant}
+use Rattle.machine_laws.specs.Laws.{Keeps, OnGrid, GrantsOnGrid, Rises, LogsRise, LogsTell, stamp_of, last_stamp, iterating_after, iterating_last}
+use Rattle.machine_laws.proofs.Accepted.{may_grant}
+use Rattle.machine_laws.proofs.Calm.{Calmer, calm_step}
+use Rattle.machine_laws.proofs.Cuts.{dues_of}
+use Rattle.machine_laws.proofs.Keep.{keeps_step, keeps_run, keeps_opening}
+use Rattle.machine_laws.proofs.Members.{by_member}
+use Rattle.machine_laws.proofs.News.{sender_of}
+use Rattle.machine_laws.proofs.Onward.{event_above}
+
+-- the kind that a grant has by whether two times are the same
+kind_next : (a b : ℕ) → (if a == b then Iterating else NextStep) ≡ NextStep → a ≡ b → ⊥
+kind_next a b kind same = clash (a == b) kind (test a b same)
+  where
+    test : (a b : ℕ) → a ≡ b → (a == b) ≡ true
+    test a b same = grind (arith, nat_tests)
+
+    clash : (t : Bool) → (if t then Iterating else NextStep) ≡ NextStep → t ≡ true → ⊥
+    clash true kind is = cc
+    clash false kind is = false≢true is
+
+kind_iterating : (a b : ℕ) → (if a == b then Iterating else NextStep) ≡ Iterating → a ≡ b
+kind_iterating a b kind = eqb-true a b (holds (a == b) kind)
+  where
+    holds : (t : Bool) → (if t then Iterating else NextStep) ≡ Iterating → t ≡ true
+    holds true kind = refl
+    holds false kind = cc
+
+on_grid : (f : Fed) (dues : List At) → IsFed f → Each IsDue dues → is_asking f.phase ≡ true → OnGrid f (grant_of f dues)
+on_grid f dues fed due asks = by_phase f.phase refl asks
+  where
+    above : rank f.last < rank (event_of f dues)
+    above = event_above f dues fed due asks
+
+    apart : {q : Phase} → q ≡ Entering → q ≡ Waiting → ⊥
+    apart enters waits = cc
+
+    waiting : f.phase ≡ Waiting → OnGrid f (grant_of f dues)
+    waiting is =
+        let goes = event_goes f dues fed is due in
+        let steps = event_steps f dues fed is due in
+        let kind : (grant_of f dues).kind ≡ (if (event_of f dues).time == f.last.time then Iterating else NextStep) = ap (λ (b : Bool). if b then Iterating else NextStep) (iterating_waits f (event_of f dues) is) in
+        record {
+          rises = above;
+          entry = λ enters. absurd (apart enters is);
+          next = λ waits k. steps.next (kind_next (event_of f dues).time f.last.time (sym kind ∙ k));
+          iterating = λ k.
+              (let same = kind_iterating (event_of f dues).time f.last.time (sym kind ∙ k) in
+              (is, same, steps.same same, goes.same same));
+          uninterruptible = λ waits un. event_waiting f dues is ∙ ap (λ (b : Bool). if b then request_stamp f else least_with f (request_stamp f) dues) un;
+        }
+
+    entering : f.phase ≡ Entering → OnGrid f (grant_of f dues)
+    entering is =
+        let kind : (grant_of f dues).kind ≡ NextStep = rw is refl in
+        let at : event_of f dues ≡ record { time = 0; micro = 1 } = rw is refl in
+        record {
+          rises = above;
+          entry = λ enters. (ap (λ (y : At). y.time) at, ap (λ (y : At). y.micro) at, kind);
+          next = λ waits k. absurd (apart is waits);
+          iterating = λ k. absurd (kinds (sym kind ∙ k));
+          uninterruptible = λ waits un. absurd (apart is waits);
+        }
+      where
+        kinds : NextStep ≡ Iterating → ⊥
+        kinds e = cc
+
+    by_phase : (q : Phase) → f.phase ≡ q → is_asking q ≡ true → OnGrid f (grant_of f dues)
+    by_phase Entering is asks = entering is
+    by_phase Waiting is asks = waiting is
+    by_phase phase is asks = absurd (false≢true asks)
+
+pub grants_on_grid : GrantsOnGrid
+grants_on_grid p s f before plan run lawful =
+    let keeps = keeps_run p (opening p) before s plan (keeps_opening p plan) run in
+    on_grid (member_at s f).time (dues_to s.items f) (keeps.feds f) (dues_of p s f keeps) (may_grant p s f lawful.0).asks
+
+-- a log with one more entry
+in_push : {A : Type 0} (xs : List A) (y x : A) → IsIn x (xs ++ y ∷ []) → IsIn x xs ⊎ (x ≡ y)
+in_push [] y x among = elim among [ inl here ↦ inr here | inr none ↦ absurd none ]
+in_push (z ∷ xs) y x among = elim among [
+  | inl here ↦ inl (inl here)
+  | inr later ↦ elim (in_push xs y x later) [ inl old ↦ inl (inr old) | inr new ↦ inr new ]
+]
+
+rises_push : (es : List LogEntry) (e : LogEntry) → Rises es → Each (λ (x : LogEntry). rank (stamp_of x.grant) < rank (stamp_of e.grant)) es → Rises (es ++ e ∷ [])
+rises_push [] e rises below = ((λ x none. absurd none), tt)
+rises_push (x ∷ es) e rises below = (
+  (λ y among. elim (in_push es e y among) [
+    | inl old ↦ rises.0 y old
+    | inr new ↦ subst (λ (z : LogEntry). rank (stamp_of x.grant) < rank (stamp_of z.grant)) (sym new) (below x (inl refl))
+  ]),
+  rises_push es e rises.1 (λ y among. below y (inr among)),
+)
+
+last_push : (s : At) (es : List LogEntry) (e : LogEntry) → last_stamp s (es ++ e ∷ []) ≡ stamp_of e.grant
+last_push s [] e = refl
+last_push s (x ∷ es) e = last_push (stamp_of x.grant) es e
+
+iterating_push : (n : ℕ) (es : List LogEntry) (e : LogEntry) → iterating_last n (es ++ e ∷ []) ≡ iterating_after (iterating_last n es) e.grant.kind
+iterating_push n [] e = refl
+iterating_push n (x ∷ es) e = iterating_push (iterating_after n x.grant.kind) es e
+
+-- what every log of a run keeps
+record Logged (m : Member) : Type 0 where
+  rises : Rises m.log
+  below : Each (λ (x : LogEntry). rank (stamp_of x.grant) ≤ rank m.time.last) m.log
+  last : m.time.last ≡ last_stamp zero_stamp m.log
+  count : m.time.count ≡ iterating_last 0 m.log
+
+logged_calm : {m n : Member} → Calmer m n → Logged m → Logged n
+logged_calm {m} {n} calm logged = record {
+  rises = subst (λ (es : List LogEntry). Rises es) (sym calm.log) logged.rises;
+  below = subst (λ (es : List LogEntry). Each (λ (x : LogEntry). rank (stamp_of x.grant) ≤ rank n.time.last) es) (sym calm.log)
+      (λ x among. (let e : rank n.time.last ≡ rank m.time.last = ap rank calm.same.last in let b = logged.below x among in omega (arith, e, b)));
+  last = calm.same.last ∙ logged.last ∙ ap (last_stamp zero_stamp) (sym calm.log);
+  count = calm.same.count ∙ logged.count ∙ ap (iterating_last 0) (sym calm.log);
+}
+
+logged_grant : (m : Member) (dues : List At) (handed : List Parcel) → rank m.time.last < rank (event_of m.time dues) → Logged m → Logged (granted_member m dues handed)
+logged_grant m dues handed above logged = record {
+  rises = rises_push m.log _ logged.rises (λ y among. (let b = logged.below y among in omega (arith, b, above)));
+  below = λ y among. elim (in_push m.log _ y among) [
+    | inl old ↦ (let b = logged.below y old in omega (arith, b, above))
+    | inr new ↦ (let e : rank (stamp_of y.grant) ≡ rank (event_of m.time dues) = ap (λ (z : LogEntry). rank (stamp_of z.grant)) new in omega (arith, e))
+  ];
+  last = sym (last_push zero_stamp m.log _);
+  count = by_kind (is_iterating m.time (event_of m.time dues)) ∙ sym (iterating_push 0 m.log _);
+}
+  where
+    by_kind : (b : Bool) → (if b then m.time.count + 1 else 0) ≡ iterating_after (iterating_last 0 m.log) (if b then Iterating else NextStep)
+    by_kind true = ap (λ (n : ℕ). n + 1) logged.count
+    by_kind false = refl
+
+logged_step : (p : Plan) (s : State) (step : Step) → Keeps p s → IsLawful p s step → ((x : ℕ) → Logged (member_at s x)) → (x : ℕ) → Logged (member_at (after p s step) x)
+logged_step p s (make f call) keeps lawful logged x =
+    by_member Logged s f x _ s.items (sender_of p s f call keeps lawful.0).within
+    (λ same. record { rises = (logged f).rises; below = (logged f).below; last = (logged f).last; count = (logged f).count })
+    (λ other. logged x)
+logged_step p s (grant f) keeps lawful logged x =
+    let may = may_grant p s f lawful.0 in
+    let above = event_above (member_at s f).time (dues_to s.items f) (keeps.feds f) (dues_of p s f keeps) may.asks in
+    by_member Logged s f x _ s.items may.within (λ same. logged_grant (member_at s f) (dues_to s.items f) _ above (logged f)) (λ other. logged x)
+logged_step p s step keeps lawful logged x = logged_calm (calm_step p s step keeps.feds lawful tt x) (logged x)
+
+logged_run : (p : Plan) (s : State) (steps : List Step) (t : State) → IsPlan p → Keeps p s → IsRun p s steps t → ((x : ℕ) → Logged (member_at s x)) → (x : ℕ) → Logged (member_at t x)
+logged_run p s [] t plan keeps run logged x = subst (λ (u : State). Logged (member_at u x)) (sym run) (logged x)
+logged_run p s (step ∷ steps) t plan keeps run logged x =
+    logged_run p (after p s step) steps t plan (keeps_step p s step plan keeps run.0) run.1 (logged_step p s step keeps run.0 logged) x
+
+logged_opening : (ts : List Terms) (x : ℕ) → Logged (get_or (map new_member ts) x blank_member)
+logged_opening [] x = record { rises = tt; below = λ y none. absurd none; last = refl; count = refl }
+logged_opening (t ∷ ts) zero = record { rises = tt; below = λ y none. absurd none; last = refl; count = refl }
+logged_opening (t ∷ ts) (suc x) = logged_opening ts x
+
+logged : (p : Plan) (s : State) (f : ℕ) (steps : List Step) → IsPlan p → IsRun p (opening p) steps s → Logged (member_at s f)
+logged p s f steps plan run = logged_run p (opening p) steps s plan (keeps_opening p plan) run (logged_opening p.settings) f
+
+pub logs_rise : LogsRise
+logs_rise p s f steps plan run = (logged p s f steps plan run).rises
+
+-- settings stay
+settings_step : (p : Plan) (s : State) (step : Step) → Keeps p s → IsLawful p s step → (x : ℕ) → (member_at (after p s step) x).time.settings ≡ (member_at s x).time.settings
+settings_step p s (make f call) keeps lawful x =
+    by_member (λ (m : Member). m.time.settings ≡ (member_at s x).time.settings) s f x _ s.items (sender_of p s f call keeps lawful.0).within
+    (λ same. ap (λ (k : ℕ). (member_at s k).time.settings) (sym same))
+    (λ other. refl)
+settings_step p s (grant f) keeps lawful x =
+    by_member (λ (m : Member). m.time.settings ≡ (member_at s x).time.settings) s f x _ s.items (may_grant p s f lawful.0).within
+    (λ same. ap (λ (k : ℕ). (member_at s k).time.settings) (sym same))
+    (λ other. refl)
+settings_step p s step keeps lawful x = (calm_step p s step keeps.feds lawful tt x).same.settings
+
+settings_run : (p : Plan) (s : State) (steps : List Step) (t : State) → IsPlan p → Keeps p s → IsRun p s steps t → (x : ℕ) → (member_at t x).time.settings ≡ (member_at s x).time.settings
+settings_run p s [] t plan keeps run x = ap (λ (u : State). (member_at u x).time.settings) run
+settings_run p s (step ∷ steps) t plan keeps run x =
+    settings_run p (after p s step) steps t plan (keeps_step p s step plan keeps run.0) run.1 x ∙ settings_step p s step keeps run.0 x
+
+settings_opening : (ts : List Terms) (x : ℕ) → (get_or (map new_member ts) x blank_member).time.settings ≡ get_or ts x default_terms
+settings_opening [] x = refl
+settings_opening (t ∷ ts) zero = refl
+settings_opening (t ∷ ts) (suc x) = settings_opening ts x
+
+pub logs_tell : LogsTell
+logs_tell p s f steps plan run =
+    let l = logged p s f steps plan run in
+    record {
+      settings = settings_run p (opening p) steps s plan (keeps_opening p plan) run f ∙ settings_opening p.settings f;
+      last = l.last;
+      count = l.count;
+    }
