@@ -17,6 +17,7 @@ use Rattle.machine_laws.specs.Plan.{Plan, Call}
 use Rattle.machine_laws.specs.Machine.{Member, State, member_at, cut_in, holder_in, by_phase, limit_refusal, make_refusal, end_refusal, if_known, if_refused, refusal_of}
 use Rattle.machine_laws.specs.Machine.Step.{grant}
 
+-- what is None after a map was None before
 pub none_mapped : {A B : Type 0} (g : A → B) (o : Option A) → option_map g o ≡ None → o ≡ None
 none_mapped g None none = refl
 none_mapped g (Some x) none = cc
@@ -29,15 +30,18 @@ known s f r lawful = by_test (nat_lt f (length s.members)) refl lawful
     by_test true is none = (ltb-true f (length s.members) is, none)
     by_test false is none = cc
 
+-- the same of a call, which has no refusal
 pub accepted : (s : State) (f : ℕ) (r : Option CallRefusal) → if_refused s f r ≡ None → (f < length s.members) × (r ≡ None)
 accepted s f r lawful = let k = known s f (option_map Refused r) lawful in (k.0, none_mapped Refused r k.1)
 
+-- so the refusal of a federate of the plan is the step's
 pub known_is : (s : State) (f : ℕ) (r : Option Unlawful) → f < length s.members → if_known s f r ≡ r
 known_is s f r within = ap (λ (b : Bool). if b then r else Some StrangeNumber) (test f (length s.members) within)
   where
     test : (a b : ℕ) → a < b → nat_lt a b ≡ true
     test a b less = grind (arith, nat_tests)
 
+-- one that may fail or die lives
 pub lives : (q : Phase) → end_refusal q ≡ None → is_live q ≡ true
 lives (Ended c) none = cc
 lives phase none = refl
@@ -54,6 +58,7 @@ pub record MaySend (fed : Fed) : Type 0 where
   pub time : fed.last.time < horizon
   pub micro : fed.last.micro < 2 ^ 62
 
+-- an accepted call that sends is of such a federate
 pub may_send : (p : Plan) (f : ℕ) (m : Member) (call : Call) → IsFed m.time → make_refusal p f m call ≡ None → MaySend m.time
 may_send p f m call fed none =
     let c = calling m.time.phase (option_or (p.objects f call) (limit_refusal m)) none in
@@ -89,6 +94,7 @@ pub record MayGrant (p : Plan) (s : State) (f : ℕ) : Type 0 where
   pub asks : is_asking (member_at s f).time.phase ≡ true
   pub none : holder_in p s (cut_in s f) (p.ancestors f) ≡ None
 
+-- a grant that is not refused tells it
 pub may_grant : (p : Plan) (s : State) (f : ℕ) → refusal_of p s (grant f) ≡ None → MayGrant p s f
 may_grant p s f lawful =
     let k = known s f _ lawful in
@@ -99,6 +105,7 @@ may_grant p s f lawful =
     by_test true r none = (refl, none)
     by_test false r none = cc
 
+-- and one that tells it is not refused
 pub grant_lawful : (p : Plan) (s : State) (f : ℕ) → MayGrant p s f → refusal_of p s (grant f) ≡ None
 grant_lawful p s f may =
     known_is s f _ may.within

@@ -26,6 +26,7 @@ use Rattle.machine_laws.proofs.Keep.{keeps_step}
 use Rattle.machine_laws.proofs.Members.{same_member, other_member, by_member, members_commute}
 use Rattle.machine_laws.proofs.News.{Sender, sender_of, new_is, new_source, sent_after}
 
+-- What the caller puts in for the federate that is granted, or for one on which it depends, is due above the cut. So the grant has the same event, cut and items before the call and after it.
 pub call_grant : (p : Plan) (s : State) (f g : ℕ) (a : Step) → IsPlan p → Keeps p s → f ≢ g → Calls p f a → IsLawful p s a → refusal_of p s (grant g) ≡ None → Commutes p s a (grant g)
 unfolding taken_at left_at
 call_grant p s f g a plan keeps differs calls lawful second = record {

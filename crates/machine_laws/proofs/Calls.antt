@@ -22,6 +22,7 @@ use Rattle.machine_laws.proofs.Calm.{Calmer, calm_turn, calm_end}
 use Rattle.machine_laws.proofs.Members.{other_member, still_known, members_commute}
 use Rattle.machine_laws.proofs.News.{new_is}
 
+-- a call of f: its next member, what it puts in and why it is refused are functions of the member alone
 pub record Calls (p : Plan) (f : ℕ) (step : Step) : Type 0 where
   pub next : Member → Member
   pub news : Member → List Parcel
@@ -47,6 +48,7 @@ calls_calm p f step next refusal does asks calm = record {
   made = λ s i none. absurd none;
 }
 
+-- each kind of call is one
 pub calls_enter : (p : Plan) (f : ℕ) → Calls p f (enter f)
 calls_enter p f =
     calls_calm p f (enter f) entered_member (λ m. option_map refusal_by_time (enter_refusal m.time)) (λ s. refl) (λ s. refl)
@@ -102,6 +104,7 @@ pub record Commutes (p : Plan) (s : State) (a b : Step) : Type 0 where
 pub flip : (p : Plan) (s : State) (a b : Step) → Commutes p s a b → Commutes p s b a
 flip p s a b c = record { lawful = c.back; back = c.lawful; same = sym c.same }
 
+-- calls of two federates change different members, and their items have different sources
 pub call_call : (p : Plan) (s : State) (f g : ℕ) (a b : Step) → f ≢ g → Calls p f a → Calls p g b → refusal_of p s a ≡ None → refusal_of p s b ≡ None → Commutes p s a b
 call_call p s f g a b differs first second lawful_a lawful_b = record {
   lawful = ap (λ (t : State). refusal_of p t b) (first.does s) ∙ asks_same p s f g m (insert_all xs s.items) b differs second ∙ lawful_b;

@@ -22,9 +22,11 @@ use Rattle.machine_laws.specs.Laws.{Keeps}
 use Rattle.machine_laws.proofs.Accepted.{MayGrant}
 use Rattle.machine_laws.proofs.Handed.{dues_due, dues_in, event_is_stamp}
 
+-- the undelivered dues to a federate are dues
 pub dues_of : (p : Plan) (s : State) (a : ℕ) → Keeps p s → Each IsDue (dues_to s.items a)
 dues_of p s a keeps = dues_due s.items a keeps.dues
 
+-- events are stamps
 pub event_in_is : (p : Plan) (s : State) (a : ℕ) → Keeps p s → IsStamp (event_in s a)
 event_in_is p s a keeps = event_stamp (member_at s a).time (dues_to s.items a) (keeps.feds a) (dues_of p s a keeps)
 
@@ -32,9 +34,11 @@ event_in_is p s a keeps = event_stamp (member_at s a).time (dues_to s.items a) (
 pub granted_is : (p : Plan) (s : State) (f : ℕ) → Keeps p s → MayGrant p s f → IsFed (granted (member_at s f).time (dues_to s.items f))
 granted_is p s f keeps may = grant_stands (member_at s f).time (dues_to s.items f) (keeps.feds f) (dues_of p s f keeps) may.asks
 
+-- the cut of a lawful grant is that of a federate that has not finished
 pub cut_is : (p : Plan) (s : State) (f : ℕ) → Keeps p s → MayGrant p s f → IsEvent (cut_in s f)
 cut_is p s f keeps may = (granted_is p s f keeps may).cut_is
 
+-- and so is the stamp of an item
 pub item_event : (fed : Fed) (due : At) → IsFed fed → fed.phase ≡ Waiting → IsDue due → IsEvent (item_stamp fed due)
 item_event fed due is waits is_due = goes_event fed (item_stamp fed due) is (item_goes fed due is waits is_due)
 
@@ -77,6 +81,7 @@ none_holds p s cut (b ∷ some) none a among =
     passed true rest e = (refl, e)
     passed false rest e = cc
 
+-- and where it is before each, none holds it
 holds_none : (p : Plan) (s : State) (cut : At) (some : List ℕ) → Each (λ a. before cut (p.first a (event_in s a)) ≡ true) some → holder_in p s cut some ≡ None
 holds_none p s cut [] each = refl
 holds_none p s cut (a ∷ some) each =
@@ -90,6 +95,7 @@ cut_below p s f a plan keeps may anc =
     let order = order_of cut first (event_is_stamp cut (cut_is p s f keeps may)) (plan.stamps a (event_in s a) (event_in_is p s a keeps)) in
     ltb-true (rank cut) (rank first) (sym order ∙ none_holds p s cut (p.ancestors f) may.none a anc)
 
+-- and where it is, no ancestor holds the grant
 pub below_lawful : (p : Plan) (s : State) (f : ℕ) → IsPlan p → Keeps p s → IsEvent (cut_in s f) → ((a : ℕ) → IsIn a (p.ancestors f) → rank (cut_in s f) < rank (p.first a (event_in s a))) →
     holder_in p s (cut_in s f) (p.ancestors f) ≡ None
 below_lawful p s f plan keeps is below = holds_none p s cut (p.ancestors f) (λ a anc.

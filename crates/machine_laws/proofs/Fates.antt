@@ -31,6 +31,7 @@ stays p s (grant f) i keeps lawful among far =
     ]))
 stays p s step i keeps lawful among far = among
 
+-- and so does a run that does not reach it
 stays_run : (p : Plan) (s : State) (steps : List Step) (t : State) (i : Parcel) → IsPlan p → Keeps p s → IsRun p s steps t → IsIn i s.items → NotReached p s steps i → IsIn i t.items
 stays_run p s [] t i plan keeps run among far = subst (λ (u : State). IsIn i u.items) (sym run) among
 stays_run p s (step ∷ steps) t i plan keeps run among far =
@@ -50,6 +51,7 @@ pub handed_when : HandedWhenReached
 handed_when p s before i plan run among lawful reached =
     handed_at p s i (keeps_run p (opening p) before s plan (keeps_opening p plan) run) lawful among reached
 
+-- what a grant hands over is a part of the ordered list
 pub handed_in_order : HandedInOrder
 handed_in_order p s f before plan run = filter_ordered (is_handed f (cut_in s f)) s.items (keeps_run p (opening p) before s plan (keeps_opening p plan) run).ordered
 
@@ -72,15 +74,18 @@ away_step p s (make f call) i gone among = elim (in_insert_all (items_in p s f c
 away_step p s (grant f) i gone among = gone.away (in_filter (is_left f (cut_in s f)) s.items i among).0
 away_step p s step i gone among = gone.away among
 
+-- and its number stays given out
 number_step : (p : Plan) (s : State) (step : Step) (i : Parcel) → Keeps p s → IsLawful p s step → i.seq < (member_at s i.source).seq → i.seq < (member_at (after p s step) i.source).seq
 number_step p s step i keeps lawful number = let rise = (onward_step p s step keeps lawful i.source).seq in omega (arith, number, rise)
 
+-- so it never comes
 gone_run : (p : Plan) (s : State) (steps : List Step) (t : State) (i : Parcel) → IsPlan p → Keeps p s → IsRun p s steps t → Gone s i → IsIn i t.items → ⊥
 gone_run p s [] t i plan keeps run gone among = gone.away (subst (λ (u : State). IsIn i u.items) run among)
 gone_run p s (step ∷ steps) t i plan keeps run gone among =
     gone_run p (after p s step) steps t i plan (keeps_step p s step plan keeps run.0) run.1
     (record { away = away_step p s step i gone; number = number_step p s step i keeps run.0 gone.number }) among
 
+-- an item that a grant has handed over is one
 handed_gone : (p : Plan) (s : State) (f : ℕ) (i : Parcel) → Keeps p s → IsLawful p s (grant f) → IsIn i (handed_in s f) → Gone (after p s (grant f)) i
 handed_gone p s f i keeps lawful handed =
     let was = in_filter (is_handed f (cut_in s f)) s.items i handed in
@@ -108,6 +113,7 @@ meets s (grant f) i = elim (cases_lt (rank (cut_in s i.target)) (rank i.due)) [
 ]
 meets s step i = inr (λ e. cc)
 
+-- by the first step of the run: a grant that reaches the item, or another step, which leaves it
 fate : (p : Plan) (s end : State) (steps : List Step) (i : Parcel) → IsPlan p → Keeps p s → IsIn i s.items → IsRun p s steps end → (NotReached p s steps i × IsIn i end.items) ⊎ IsHanded p s steps end i
 fate p s end [] i plan keeps among run = inl (tt, subst (λ (u : State). IsIn i u.items) (sym run) among)
 fate p s end (step ∷ steps) i plan keeps among run = elim (meets s step i) [

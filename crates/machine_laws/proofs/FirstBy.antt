@@ -8,15 +8,19 @@ use Rattle.time_state.specs.Fed.{Fed}
 use Rattle.machine_laws.specs.Plan.{Leg, due_of}
 use Rattle.machine_laws.specs.First.{first_by, FirstLaws}
 
+-- it is a stamp
 stamps : (delay : ℕ) (s : At) → IsStamp s → IsStamp (first_by delay s)
 stamps delay s is = (grind (arith, nat_tests), grind (arith, nat_tests))
 
+-- it rises with its stamp
 rises : (delay : ℕ) (s t : At) → IsStamp s → IsStamp t → rank s ≤ rank t → rank (first_by delay s) ≤ rank (first_by delay t)
 rises delay s t is is_t le = grind (arith, nat_tests)
 
+-- it is above its stamp
 above : (delay : ℕ) (s : At) → IsStamp s → rank (next_of s) ≤ rank (first_by delay s)
 above delay s is = grind (arith, nat_tests)
 
+-- no item to another is due before it
 sent : (delay a : ℕ) (leg : Leg) (fed : Fed) → delay ≤ leg.delay → leg.delay < 2 ^ 61 → leg.target ≢ a → fed.last.time < horizon → fed.last.micro < 2 ^ 62 → rank (first_by delay fed.last) ≤ rank (due_of fed a leg)
 sent delay a leg fed holds short other low small = plain delay leg.delay leg.target a fed.last.time fed.last.micro holds short other low small
   where

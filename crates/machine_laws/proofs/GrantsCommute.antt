@@ -34,6 +34,7 @@ taken_at g m e items = filter (is_handed g (cut_at m.time e)) items
 unfoldable pub left_at : ℕ → Member → At → List Parcel → List Parcel
 left_at g m e items = filter (is_left g (cut_at m.time e)) items
 
+-- what a grant does, by these
 pub grant_does : (p : Plan) (s : State) (g : ℕ) →
     after p s (grant g) ≡ with_member s g (granted_at (member_at s g) (event_in s g) (taken_at g (member_at s g) (event_in s g) s.items)) (left_at g (member_at s g) (event_in s g) s.items)
 unfolding granted_at taken_at left_at
@@ -49,6 +50,7 @@ grant_same p s f g m xs differs event =
     ∙ ap (λ (e : At). with_member t g (granted_at (member_at t g) e (taken_at g (member_at t g) e xs)) (left_at g (member_at t g) e xs)) event
     ∙ ap (λ (n : Member). with_member t g (granted_at n (event_in s g) (taken_at g n (event_in s g) xs)) (left_at g n (event_in s g) xs)) (other_member s f g m xs differs)
 
+-- the cut is the same where the member and the event are
 pub cut_same : (s t : State) (g : ℕ) → member_at t g ≡ member_at s g → event_in t g ≡ event_in s g → cut_in t g ≡ cut_in s g
 cut_same s t g member event = ap (λ (m : Member). cut_at m.time (event_in t g)) member ∙ ap (λ (e : At). cut_at (member_at s g).time e) event
 
@@ -67,6 +69,7 @@ holder_same p s t c d (a ∷ some) cuts events =
     ∙ ap (λ (x : At). if before x (p.first a (event_in s a)) then holder_in p t d some else Some (Early a (event_in s a))) (sym cuts)
     ∙ ap (λ (r : Option Unlawful). if before c (p.first a (event_in s a)) then r else Some (Early a (event_in s a))) (holder_same p s t c d some cuts (λ b among. events b (inr among)))
 
+-- so a grant is lawful after one of another federate
 grant_after_grant : (p : Plan) (s : State) (f g : ℕ) → f ≢ g → refusal_of p s (grant f) ≡ None → refusal_of p s (grant g) ≡ None → refusal_of p (after p s (grant f)) (grant g) ≡ None
 grant_after_grant p s f g differs first second =
     let before_f = may_grant p s f first in
@@ -86,6 +89,7 @@ unfolding taken_at left_at
 taken_apart f g m n e d items differs =
     filter_within (is_handed g (cut_at n.time d)) (is_left f (cut_at m.time e)) items (λ i handed. ap not (not_theirs f (cut_at m.time e) i (λ same. differs (sym same ∙ handed_target g (cut_at n.time d) i handed))))
 
+-- what two grants leave is the same in either order
 left_commutes : (f g : ℕ) (m n : Member) (e d : At) (items : List Parcel) → left_at g n d (left_at f m e items) ≡ left_at f m e (left_at g n d items)
 unfolding left_at
 left_commutes f g m n e d items = filter_commutes (is_left g (cut_at n.time d)) (is_left f (cut_at m.time e)) items
@@ -108,6 +112,7 @@ two_grants p s f g differs within =
     ap (λ (t : State). after p t (grant g)) does ∙ grant_same p s f g new xs differs event
     ∙ ap (λ (hs : List Parcel). with_member (with_member s f new xs) g (granted_at n d hs) (left_at g n d xs)) (taken_apart f g m n e d s.items differs)
 
+-- grants of two federates change different members, and neither changes the event or the items of the other
 pub grant_grant : (p : Plan) (s : State) (f g : ℕ) → f ≢ g → refusal_of p s (grant f) ≡ None → refusal_of p s (grant g) ≡ None → Commutes p s (grant f) (grant g)
 grant_grant p s f g differs first second =
     let back : g ≢ f = λ e. differs (sym e) in

@@ -19,6 +19,7 @@ in_dues items f d among =
     let k = in_filter (is_to f) items m.0 m.1 in
     (m.0, k.0, eqb-true m.0.target f k.1, m.2)
 
+-- and the due of an item is one to its target
 pub dues_in : (items : List Parcel) (i : Parcel) → IsIn i items → IsIn i.due (dues_to items i.target)
 dues_in items i among = map_in (λ (j : Parcel). j.due) (filter (is_to i.target) items) i (filter_in (is_to i.target) items i among (same i.target))
   where
@@ -31,9 +32,11 @@ dues_within xs items f within d among =
     let k = in_dues xs f d among in
     subst (λ (x : ℕ). IsIn d (dues_to items x)) k.2 (subst (λ (y : At). IsIn y (dues_to items k.0.target)) (sym k.3) (dues_in items k.0 (within k.0 k.1)))
 
+-- the dues of items are dues
 pub dues_due : (items : List Parcel) (f : ℕ) → Each (λ i. IsDue i.due) items → Each IsDue (dues_to items f)
 dues_due items f due d among = let m = in_dues items f d among in subst IsDue (sym m.3) (due m.0 m.1)
 
+-- a stamp of a federate that has not finished is a stamp
 pub event_is_stamp : (s : At) → IsEvent s → IsStamp s
 event_is_stamp s is = (omega (arith, is.time), omega (arith, is.micro))
 
@@ -41,6 +44,7 @@ event_is_stamp s is = (omega (arith, is.time), omega (arith, is.micro))
 reaches : (due cut : At) → IsDue due → IsEvent cut → at_most due cut ≡ nat_le (rank due) (rank cut)
 reaches due cut is_due is_cut = most_of due cut (omega (arith, is_due.time), omega (arith, is_due.micro)) (event_is_stamp cut is_cut)
 
+-- what is due by the cut is handed over
 pub handed_reached : (f : ℕ) (cut : At) (i : Parcel) → IsDue i.due → IsEvent cut → i.target ≡ f → rank i.due ≤ rank cut → is_handed f cut i ≡ true
 handed_reached f cut i due is to least = plain i.target f (at_most i.due cut) (rank i.due) (rank cut) (reaches i.due cut due is) to least
   where

@@ -21,14 +21,17 @@ use Rattle.machine_laws.proofs.Keep.{keeps_step, keeps_opening}
 use Rattle.machine_laws.proofs.Members.{by_member}
 use Rattle.machine_laws.proofs.News.{sender_of}
 
+-- the items of a log with one more entry
 items_push : (es : List LogEntry) (e : LogEntry) → logged_items (es ++ e ∷ []) ≡ logged_items es ++ e.items
 items_push [] e = append-nil e.items
 items_push (x ∷ es) e = ap (λ (l : List Parcel). x.items ++ l) (items_push es e) ∙ sym (append_assoc x.items (logged_items es) e.items)
 
+-- a filter that passes all
 filter_all : (q : Parcel → Bool) (xs : List Parcel) → Each (λ (i : Parcel). q i ≡ true) xs → filter q xs ≡ xs
 filter_all q [] each = refl
 filter_all q (x ∷ xs) each = rw (each x (inl refl)) (ap (λ (l : List Parcel). x ∷ l) (filter_all q xs (λ i among. each i (inr among))))
 
+-- a filter that passes none
 filter_none : (q : Parcel → Bool) (xs : List Parcel) → Each (λ (i : Parcel). q i ≡ false) xs → filter q xs ≡ []
 filter_none q [] each = refl
 filter_none q (x ∷ xs) each = rw (each x (inl refl)) (filter_none q xs (λ i among. each i (inr among)))
@@ -41,6 +44,7 @@ handed_to_it s f g same =
     test : (a b : ℕ) → a ≡ b → (a == b) ≡ true
     test a b e = grind (arith, nat_tests)
 
+-- and nothing for another
 handed_to_others : (s : State) (f g : ℕ) → (f ≡ g → ⊥) → filter (is_to f) (handed_in s g) ≡ []
 handed_to_others s f g other =
     filter_none (is_to f) (handed_in s g) (λ i among. test i.target f (λ e. other (sym e ∙ handed_target g (cut_in s g) i (in_filter (is_handed g (cut_in s g)) s.items i among).1)))
@@ -62,6 +66,7 @@ holds_step p s (make g call) f keeps lawful =
     (λ other. sym (append-nil (logged_items (member_at s f).log)))
 holds_step p s step f keeps lawful = ap logged_items (calm_step p s step keeps.feds lawful tt f).log ∙ sym (append-nil (logged_items (member_at s f).log))
 
+-- and so does a run
 holds_run : (p : Plan) (s : State) (steps : List Step) (end : State) (f : ℕ) → IsPlan p → Keeps p s → IsRun p s steps end →
     logged_items (member_at end f).log ≡ logged_items (member_at s f).log ++ filter (is_to f) (all_handed p s steps)
 holds_run p s [] end f plan keeps run = ap (λ (t : State). logged_items (member_at t f).log) run ∙ sym (append-nil (logged_items (member_at s f).log))
@@ -71,6 +76,7 @@ holds_run p s (step ∷ steps) end f plan keeps run =
     ∙ append_assoc (logged_items (member_at s f).log) (filter (is_to f) (handed_by s step)) (filter (is_to f) (all_handed p (after p s step) steps))
     ∙ ap (λ (l : List Parcel). logged_items (member_at s f).log ++ l) (sym (filter-append (is_to f) (handed_by s step) (all_handed p (after p s step) steps)))
 
+-- the logs begin empty
 empty_log : (ts : List Terms) (f : ℕ) → logged_items (get_or (map new_member ts) f blank_member).log ≡ []
 empty_log [] f = refl
 empty_log (t ∷ ts) zero = refl

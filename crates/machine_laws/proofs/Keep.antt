@@ -96,6 +96,7 @@ keeps_taken p s f n q plan keeps within fed_new seq_new event_new left safe = re
         (λ same. (let e : rank (event_in s a) ≡ rank (event_in s f) = ap (λ (k : ℕ). rank (event_in s k)) same in let new = event_new (dues_to t.items a) in omega (arith, e, new)))
         (λ other. event_fewer (member_at s a).time (dues_to s.items a) (dues_to t.items a) (keeps.feds a) (dues_of p s a keeps) (dues_within t.items s.items a (λ i among. (was i among).0)))
 
+-- a grant goes on to its cut, which lets through all that is due by it
 keeps_grant : (p : Plan) (s : State) (f : ℕ) → IsPlan p → Keeps p s → MayGrant p s f → Keeps p (after p s (grant f))
 keeps_grant p s f plan keeps may =
     keeps_taken p s f _ (is_left f (cut_in s f)) plan keeps may.within
@@ -105,6 +106,7 @@ keeps_grant p s f plan keeps may =
     (λ i among same left. left_above f (cut_in s f) i (keeps.dues i among) (cut_is p s f keeps may) same left)
     (λ a anc. cut_below p s f a plan keeps may anc)
 
+-- a call that sends puts in items that are safe
 keeps_make : (p : Plan) (s : State) (f : ℕ) (call : Call) → IsPlan p → Keeps p s → Sender p s f → Keeps p (after p s (make f call))
 keeps_make p s f call plan keeps sender = record {
   feds = λ x. subst IsFed (sym (time_same x)) (keeps.feds x);
@@ -200,6 +202,7 @@ opening_at [] f each = (default_terms, default_is, refl)
 opening_at (t ∷ ts) zero each = (t, each t (inl refl), refl)
 opening_at (t ∷ ts) (suc f) each = opening_at ts f (λ x among. each x (inr among))
 
+-- at the opening there are no items, and every last cut is (0, 0)
 pub keeps_opening : (p : Plan) → IsPlan p → Keeps p (opening p)
 keeps_opening p plan = record {
   feds = λ f. (let at = opening_at p.settings f plan.settings in subst (λ (m : Member). IsFed m.time) (sym at.2) (opening_stands at.0 at.1));
@@ -218,6 +221,7 @@ keeps_opening p plan = record {
       omega (arith, cut, event, above));
 }
 
+-- so every state of a run keeps it
 pub keeps_run : (p : Plan) (s : State) (steps : List Step) (end : State) → IsPlan p → Keeps p s → IsRun p s steps end → Keeps p end
 keeps_run p s [] end plan keeps run = subst (λ (t : State). Keeps p t) (sym run) keeps
 keeps_run p s (step ∷ steps) end plan keeps run = keeps_run p (after p s step) steps end plan (keeps_step p s step plan keeps run.0) run.1

@@ -17,9 +17,11 @@ use Rattle.machine_laws.specs.Laws.{handed_by, put_by, all_handed, all_put, Item
 count : (Parcel → Bool) → List Parcel → ℕ
 count q xs = length (filter q xs)
 
+-- 1 for an item of the sort
 one : (Parcel → Bool) → Parcel → ℕ
 one q i = if q i then 1 else 0
 
+-- counts of lists: empty, with one more in front, with one or all of a list put in, and joined
 count_nil : (q : Parcel → Bool) → count q [] ≡ 0
 unfolding count
 count_nil q = refl
@@ -74,11 +76,13 @@ count_append : (q : Parcel → Bool) (xs ys : List Parcel) → count q (xs ++ ys
 unfolding count
 count_append q xs ys = ap length (filter-append q xs ys) ∙ length-append (filter q xs) (filter q ys)
 
+-- a step: what it puts in and what was there is what it hands over and what is left
 adds_step : (q : Parcel → Bool) (p : Plan) (s : State) (step : Step) → count q (put_by p s step) + count q s.items ≡ count q (handed_by s step) + count q (after p s step).items
 adds_step q p s (make f call) = let a = count_insert_all q (items_in p s f call) s.items in let n = count_nil q in omega (arith, a, n)
 adds_step q p s (grant f) = let a = count_split q (is_handed f (cut_in s f)) s.items in let n = count_nil q in omega (arith, a, n)
 adds_step q p s step = refl
 
+-- and so is a run
 adds_run : (q : Parcel → Bool) (p : Plan) (s : State) (steps : List Step) (end : State) → IsRun p s steps end → count q (all_put p s steps) + count q s.items ≡ count q (all_handed p s steps) + count q end.items
 adds_run q p s [] end run = ap (λ (t : State). count q [] + count q t.items) (sym run)
 adds_run q p s (step ∷ steps) end run =

@@ -23,6 +23,7 @@ use Rattle.machine_laws.proofs.GrantsCommute.{grant_grant}
 use Rattle.machine_laws.proofs.Keep.{keeps_step}
 use Rattle.machine_laws.proofs.Members.{other_member}
 
+-- a federate in this phase calls
 abbrev is_calling : Phase → Bool
 is_calling Initializing = true
 is_calling Running = true
@@ -37,11 +38,13 @@ cases_phase Entering call grants step e = inr (refl, e)
 cases_phase Waiting call grants step e = inr (refl, e)
 cases_phase phase call grants step e = cc
 
+-- so one in a phase of calls takes its call
 phase_calls : (q : Phase) (call grants : Option Step) → is_calling q ≡ true → in_turn q call grants ≡ call
 phase_calls Initializing call grants e = refl
 phase_calls Running call grants e = refl
 phase_calls phase call grants e = absurd (false≢true e)
 
+-- and one that asks takes its grant
 phase_asks : (q : Phase) (call grants : Option Step) → is_asking q ≡ true → in_turn q call grants ≡ grants
 phase_asks Entering call grants e = refl
 phase_asks Waiting call grants e = refl
@@ -55,6 +58,7 @@ calling_lives phase e = refl
 some_same : {A : Type 0} {x y : A} → Some x ≡ Some y → x ≡ y
 some_same e = cc
 
+-- a step that is taken where it is lawful is lawful
 lawful_same : (r : Option Unlawful) (x y : Step) → if_lawful r x ≡ Some y → (r ≡ None) × (y ≡ x)
 lawful_same None x y e = (refl, sym (some_same e))
 lawful_same (Some z) x y e = cc
@@ -70,6 +74,7 @@ calling_known s f calling = elim (cases_lt f (length s.members)) [
 accepts : (s : State) (f : ℕ) (r : Option CallRefusal) → f < length s.members → r ≡ None → if_refused s f r ≡ None
 accepts s f r within none = known_is s f (option_map Refused r) within ∙ ap (option_map Refused) none
 
+-- what a script does is a call
 calls_by : (p : Plan) (f : ℕ) (doing : Doing) → KeepsTime (step_by f doing) → Calls p f (step_by f doing)
 calls_by p f enters times = calls_enter p f
 calls_by p f (makes call) times = calls_make p f call
@@ -77,6 +82,7 @@ calls_by p f (requests time mode) times = calls_request p f time mode times
 calls_by p f finishes times = calls_finish p f
 calls_by p f (fails text) times = calls_fail p f text
 
+-- and is refused as a call
 refusal_by : (p : Plan) (s : State) (f : ℕ) (doing : Doing) → refusal_of p s (step_by f doing) ≡ if_refused s f (doing_refusal p f (member_at s f) doing)
 refusal_by p s f enters = refl
 refusal_by p s f doing = refl
@@ -109,6 +115,7 @@ record Chosen (p : Plan) (scripts : Scripts) (w : Play) (f : ℕ) (step : Step) 
   -- it would take it from each play where its member and its calls are the same and the step is lawful
   again : (v : Play) → member_at v.state f ≡ member_at w.state f → calls_of v f ≡ calls_of w f → refusal_of p v.state step ≡ None → next_step p scripts v f ≡ Some step
 
+-- the step that a federate would take is its call or its grant
 chosen_is : (p : Plan) (scripts : Scripts) (w : Play) (f : ℕ) (step : Step) → KeepsTimes scripts → next_step p scripts w f ≡ Some step → Chosen p scripts w f step
 chosen_is p scripts w f step times choice = elim (cases_phase m.time.phase (Some call) grants step choice) [
   | inl calling ↦
@@ -178,10 +185,12 @@ member_stays p s f g a differs (inr grants) = subst (λ (x : Step). member_at (a
 abbrev counted : Bool → List ℕ → ℕ → List ℕ
 counted call calls f = if call then set calls f (get_or calls f 0 + 1) else calls
 
+-- another's calls stay
 count_stays : (call : Bool) (calls : List ℕ) (f g : ℕ) → f ≢ g → get_or (counted call calls f) g 0 ≡ get_or calls g 0
 count_stays true calls f g differs = get_or-set_other calls f g _ 0 (λ e. differs (sym e))
 count_stays false calls f g differs = refl
 
+-- and counts commute
 counts_commute : (a b : Bool) (calls : List ℕ) (f g : ℕ) → f ≢ g → counted b (counted a calls f) g ≡ counted a (counted b calls g) f
 counts_commute true true calls f g differs =
     ap (λ (k : ℕ). set (set calls f (get_or calls f 0 + 1)) g (k + 1)) (count_stays true calls f g differs)
@@ -190,12 +199,14 @@ counts_commute true true calls f g differs =
 counts_commute true false calls f g differs = refl
 counts_commute false b calls f g differs = refl
 
+-- so a move may be taken after one of another federate
 second_move : (p : Plan) (scripts : Scripts) (w : Play) (f g : ℕ) (a b : Step) → f ≢ g → Chosen p scripts w f a → Chosen p scripts w g b → refusal_of p (after p w.state a) b ≡ None →
     move p scripts g (moved p w f a) ≡ Some (moved p (moved p w f a) g b)
 second_move p scripts w f g a b differs first second lawful =
     ap (option_map (moved p (moved p w f a) g))
     (second.again (moved p w f a) (member_stays p w.state f g a differs first.own) (count_stays (is_call a) w.calls f g differs) lawful)
 
+-- and the two end alike in either order
 plays_same : (p : Plan) (w : Play) (f g : ℕ) (a b : Step) → f ≢ g → Commutes p w.state a b → moved p (moved p w f a) g b ≡ moved p (moved p w g b) f a
 plays_same p w f g a b differs commutes =
     let states = commutes.same in
@@ -215,6 +226,7 @@ diamond p scripts w a b f g plan times keeps differs first second =
       ap (move p scripts f) y.is ∙ second_move p scripts w g f y.step x.step (λ e. differs (sym e)) gy fx commutes.back ∙ ap (λ (v : Play). Some v) (sym (plays_same p w f g x.step y.step differs commutes)),
     )
 
+-- a move keeps what every state of a run keeps
 pub move_keeps : (p : Plan) (scripts : Scripts) (f : ℕ) (w a : Play) → IsPlan p → KeepsTimes scripts → Keeps p w.state → move p scripts f w ≡ Some a → Keeps p a.state
 move_keeps p scripts f w a plan times keeps e =
     let x = moved_is p scripts f w a e in

@@ -23,6 +23,7 @@ pub record Sender (p : Plan) (s : State) (f : ℕ) : Type 0 where
   pub may : MaySend (member_at s f).time
   pub own : event_in s f ≡ (member_at s f).time.last
 
+-- an accepted call is of such a federate
 pub sender_of : (p : Plan) (s : State) (f : ℕ) (call : Call) → Keeps p s → refusal_of p s (make f call) ≡ None → Sender p s f
 sender_of p s f call keeps lawful =
     let k = accepted s f _ lawful in
@@ -35,6 +36,7 @@ pub record New (p : Plan) (s : State) (f : ℕ) (call : Call) (i : Parcel) : Typ
   pub among : IsIn leg (legs_of p f (member_at s f).seq call)
   pub is : i ≡ item_of (member_at s f).time f (member_at s f).seq leg
 
+-- an item of the call is such an item
 pub new_is : (p : Plan) (s : State) (f : ℕ) (call : Call) (i : Parcel) → IsIn i (items_in p s f call) → New p s f call i
 new_is p s f call i among =
     let m = in_map (item_of (member_at s f).time f (member_at s f).seq) (legs_of p f (member_at s f).seq call) i among in
@@ -44,6 +46,7 @@ new_is p s f call i among =
 cut_near : (fed : Fed) → IsFed fed → MaySend fed → (fed.last_cut.time ≡ fed.last.time) × (fed.last_cut.micro ≤ 2 ^ 62)
 cut_near fed is may = let low = is.cut_low in let high = is.cut_high in let small = is.cut_is.micro in let micro = may.micro in (omega arith, omega arith)
 
+-- the due of what it sends is a due
 due_is : (fed : Fed) (f : ℕ) (leg : Leg) → IsFed fed → MaySend fed → leg.delay < 2 ^ 61 → IsDue (due_of fed f leg)
 due_is fed f leg is may short = let near = cut_near fed is may in record { time = grind (arith, nat_tests); micro = grind (arith, nat_tests) }
 
@@ -56,6 +59,7 @@ new_due p s f call i plan keeps sender new =
     subst (λ (j : Parcel). IsDue j.due) (sym new.is)
     (due_is (member_at s f).time f new.leg (keeps.feds f) sender.may (plan.delays f (member_at s f).seq call new.leg new.among))
 
+-- an item is for the sender, or for one that depends on it
 pub new_source : (p : Plan) (s : State) (f : ℕ) (call : Call) (i : Parcel) → IsPlan p → New p s f call i → (i.target ≡ f) ⊎ IsIn f (p.ancestors i.target)
 new_source p s f call i plan new =
     let to : i.target ≡ new.leg.target = ap (λ (j : Parcel). j.target) new.is in

@@ -31,6 +31,7 @@ one_less p scripts w n end (g ∷ fs) f plan times keeps moves still first = eli
       (g ∷ rest.0, (d.0, d.2, rest.1))
 ]
 
+-- by the moves of the second run: each of them leads to a play from which the first end is as near
 pub one_end : OneEnd
 one_end p scripts w a b [] [] plan times keeps to_a still_a to_b still_b = to_a ∙ sym to_b
 one_end p scripts w a b (f ∷ fs) [] plan times keeps to_a still_a to_b still_b =
@@ -43,10 +44,12 @@ pub one_answer : OneAnswer
 one_answer p scripts a b fs gs plan times to_a still_a to_b still_b =
     one_end p scripts (opening_play p) a b fs gs plan times (keeps_step p (opening p) begin plan (keeps_opening p plan) (refl, tt)) to_a still_a to_b still_b
 
+-- a reference run is a run of moves
 reference_moves : (p : Plan) (scripts : Scripts) (w end : Play) (fs : List ℕ) → IsReference p scripts w fs end → Moves p scripts w fs end
 reference_moves p scripts w end [] run = run.0
 reference_moves p scripts w end (f ∷ fs) run = (run.0, run.1, reference_moves p scripts run.0 end fs run.3)
 
+-- that goes on until no federate may move
 reference_still : (p : Plan) (scripts : Scripts) (w end : Play) (fs : List ℕ) → IsReference p scripts w fs end → IsStill p scripts end
 reference_still p scripts w end [] run = subst (λ (v : Play). IsStill p scripts v) (sym run.0) run.1
 reference_still p scripts w end (f ∷ fs) run = reference_still p scripts run.0 end fs run.3

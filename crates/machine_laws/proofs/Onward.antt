@@ -31,10 +31,12 @@ event_above f dues fed due asks = by_phase f.phase refl asks
     by_phase Waiting is asks = (event_goes f dues fed is due).rises
     by_phase phase is asks = absurd (false≢true asks)
 
+-- what may change of a member: its last cut and its number rise
 pub record Onward (m n : Member) : Type 0 where
   pub cut : rank m.time.last_cut ≤ rank n.time.last_cut
   pub seq : m.seq ≤ n.seq
 
+-- a calmer member has the same
 onward_calm : {m n : Member} → Calmer m n → Onward m n
 onward_calm {m} {n} calm = record {
   cut = (let e : rank n.time.last_cut ≡ rank m.time.last_cut = ap rank calm.same.cut in omega (arith, e));
@@ -51,6 +53,7 @@ same_of s f x n same onward =
 stays : (m : Member) → Onward m m
 stays m = record { cut = omega arith; seq = omega arith }
 
+-- every step leads each member onward
 pub onward_step : (p : Plan) (s : State) (step : Step) → Keeps p s → IsLawful p s step → (x : ℕ) → Onward (member_at s x) (member_at (after p s step) x)
 onward_step p s (make f call) keeps lawful x =
     by_member (λ (m : Member). Onward (member_at s x) m) s f x _ s.items (sender_of p s f call keeps lawful.0).within
@@ -66,6 +69,7 @@ onward_step p s (grant f) keeps lawful x =
     (λ other. stays (member_at s x))
 onward_step p s step keeps lawful x = onward_calm (calm_step p s step keeps.feds lawful tt x)
 
+-- and so does every run
 pub onward_run : (p : Plan) (s : State) (steps : List Step) (t : State) → IsPlan p → Keeps p s → IsRun p s steps t → (x : ℕ) → Onward (member_at s x) (member_at t x)
 onward_run p s [] t plan keeps run x = record {
   cut = (let e : rank (member_at t x).time.last_cut ≡ rank (member_at s x).time.last_cut = ap (λ (u : State). rank (member_at u x).time.last_cut) run in omega (arith, e));
@@ -76,6 +80,7 @@ onward_run p s (step ∷ steps) t plan keeps run x =
     let more = onward_run p (after p s step) steps t plan (keeps_step p s step plan keeps run.0) run.1 x in
     record { cut = (let a = one.cut in let b = more.cut in omega (arith, a, b)); seq = (let a = one.seq in let b = more.seq in omega (arith, a, b)) }
 
+-- the last cut is at least the grant's ever after, and each undelivered item is above it
 pub nothing_late : NothingLate
 nothing_late p s t f before later i plan run lawful rest among same =
     let keeps = keeps_run p (opening p) before s plan (keeps_opening p plan) run in

@@ -12,6 +12,7 @@ use Rattle.machine_laws.specs.Example.{pair, some_steps, PairRuns}
 use Rattle.machine_laws.proofs.Calm.{default_is}
 use Rattle.machine_laws.proofs.FirstBy.{first_laws}
 
+-- where steps lead
 end_of : Plan → State → List Step → State
 end_of p s [] = s
 end_of p s (step ∷ steps) = end_of p (after p s step) steps
@@ -41,6 +42,7 @@ ancestor_is a f among = elim (cases_Bool (f == 1)) [
   | inr other ↦ let cut = rw other at among in absurd cut
 ]
 
+-- so the plan is as the laws need it
 pair_is : IsPlan pair
 pair_is = record {
   settings = λ terms among. elim among [
@@ -59,6 +61,7 @@ pair_is = record {
   closed = λ a b f first second differs. (let x = ancestor_is a b first in let y = ancestor_is b f second in let e = x.1 in let d = y.0 in absurd (omega (arith, e, d)));
 }
 
+-- the run by computing
 pub pair_runs : PairRuns
 unfolding first_from comes_before end_of
 pair_runs = record {

@@ -16,6 +16,7 @@ use Rattle.machine_laws.specs.First.{first_by}
 abbrev pub endpoint_of : ℕ → EndRef
 endpoint_of f = record { fed = f; index = 0 }
 
+-- the message of the first federate to the second, handed over at this time
 abbrev pub message : List ℕ → ℕ → Content
 message payload time =
     Message (record {
@@ -40,6 +41,7 @@ pair = record {
   first = λ a s. first_by 10 s;
 }
 
+-- the first federate sends after its entry, and the second asks for a later time than the message is due
 abbrev pub some_steps : List Step
 some_steps =
     begin ∷ enter 0 ∷ enter 1 ∷ grant 0 ∷ make 0 (send 0 [] (7 ∷ [])) ∷ grant 1 ∷ request 1 20 Next ∷ request 0 5 Next ∷ grant 1 ∷ []

@@ -55,6 +55,7 @@ abbrev pub GrantsOnGrid : Type 0
 GrantsOnGrid = (p : Plan) (s : State) (f : ℕ) (before : List Step) → IsPlan p → IsRun p (opening p) before s → IsLawful p s (grant f) →
     OnGrid (member_at s f).time (grant_of (member_at s f).time (dues_to s.items f))
 
+-- each stamp of a log is above those before it
 abbrev pub Rises : List LogEntry → Type 0
 Rises [] = Unit {0}
 Rises (e ∷ entries) = Each (λ later. rank (stamp_of e.grant) < rank (stamp_of later.grant)) entries × Rises entries
@@ -68,6 +69,7 @@ abbrev pub last_stamp : At → List LogEntry → At
 last_stamp s [] = s
 last_stamp s (e ∷ entries) = last_stamp (stamp_of e.grant) entries
 
+-- the count of iterating grants after one of this kind
 abbrev pub iterating_after : ℕ → Kind → ℕ
 iterating_after count Iterating = count + 1
 iterating_after count NextStep = 0
@@ -77,13 +79,19 @@ abbrev pub iterating_last : ℕ → List LogEntry → ℕ
 iterating_last count [] = count
 iterating_last count (e ∷ entries) = iterating_last (iterating_after count e.grant.kind) entries
 
--- what a federate keeps of its settings and its grants is what the plan and its log tell
+-- the first grant of a log is the entry
+abbrev pub BeginsWithEntry : List LogEntry → Type 0
+BeginsWithEntry [] = Unit {0}
+BeginsWithEntry (e ∷ entries) = e.grant ≡ record { time = 0; micro = 1; kind = NextStep }
+
+-- a log begins with the entry, and what a federate keeps of its settings and its grants is what the plan and its log tell
 pub record LogTells (p : Plan) (s : State) (f : ℕ) : Type 0 where
+  pub entry : BeginsWithEntry (member_at s f).log
   pub settings : (member_at s f).time.settings ≡ slice_index_or p.settings f default_terms
   pub last : (member_at s f).time.last ≡ last_stamp zero_stamp (member_at s f).log
   pub count : (member_at s f).time.count ≡ iterating_last 0 (member_at s f).log
 
--- So the grant before, its settings and the iterating grants since the time last rose are those that `OnGrid` speaks of.
+-- So the settings, the grant before and the iterating grants since the time last rose are those of which `OnGrid` speaks.
 abbrev pub LogsTell : Type 0
 LogsTell = (p : Plan) (s : State) (f : ℕ) (steps : List Step) → IsPlan p → IsRun p (opening p) steps s → LogTells p s f
 
@@ -145,6 +153,7 @@ abbrev pub put_by : Plan → State → Step → List Parcel
 put_by p s (make f call) = items_in p s f call
 put_by p s step = []
 
+-- and so do the steps of a run, one after another
 abbrev pub all_handed : Plan → State → List Step → List Parcel
 all_handed p s [] = []
 all_handed p s (step ∷ steps) = handed_by s step ++ all_handed p (after p s step) steps
@@ -158,6 +167,7 @@ abbrev pub ItemsAddUp : Type 0
 ItemsAddUp = (p : Plan) (steps : List Step) (end : State) (sort : Parcel → Bool) → IsRun p (opening p) steps end →
     length (filter sort (all_put p (opening p) steps)) ≡ length (filter sort (all_handed p (opening p) steps)) + length (filter sort end.items)
 
+-- all that a log tells of as handed over
 abbrev pub logged_items : List LogEntry → List Parcel
 logged_items [] = []
 logged_items (e ∷ entries) = e.items ++ logged_items entries

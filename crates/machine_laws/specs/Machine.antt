@@ -39,6 +39,7 @@ pub record State : Type 0 where
   -- the undelivered items of all federates, in order
   pub items : List Parcel
 
+-- the steps name federates by their numbers
 pub data Step : Type 0 where
   begin : Step
   enter : ℕ → Step
@@ -51,6 +52,7 @@ pub data Step : Type 0 where
   -- of a core, for a federate that has failed or died
   halt : ℕ → ℕ → Step
 
+-- the settings where a federate names none
 abbrev pub default_terms : Terms
 default_terms =
     record {
@@ -71,12 +73,14 @@ new_member terms = record { time = created terms; seq = 0; log = []; text = [] }
 abbrev pub blank_member : Member
 blank_member = new_member default_terms
 
+-- every federate is Created, and nothing was sent
 abbrev pub opening : Plan → State
 opening p = record { begun = false; members = map new_member p.settings; items = [] }
 
 abbrev pub member_at : State → ℕ → Member
 member_at s f = slice_index_or s.members f blank_member
 
+-- an item for f
 abbrev pub is_to : ℕ → Parcel → Bool
 is_to f i = i.target == f
 
@@ -84,7 +88,7 @@ is_to f i = i.target == f
 abbrev pub dues_to : List Parcel → ℕ → List At
 dues_to items f = map (λ (i : Parcel). i.due) (filter (is_to f) items)
 
--- the stamp at which a federate would act next, and what is due by when it is handed over then
+-- the stamp at which a federate would act next, and the cut of a grant there: what is due by it is handed over
 abbrev pub event_in : State → ℕ → At
 event_in s f = event_of (member_at s f).time (dues_to s.items f)
 
@@ -109,7 +113,7 @@ left_in s f = filter (is_left f (cut_in s f)) s.items
 abbrev pub items_in : Plan → State → ℕ → Call → List Parcel
 items_in p s f call = items_by p (member_at s f).time f (member_at s f).seq call
 
--- why a call is refused in a phase other than these two
+-- a call that has its place in two phases, where more may refuse it
 abbrev pub by_phase : Phase → Option CallRefusal → Option CallRefusal
 by_phase Initializing more = more
 by_phase Running more = more
@@ -122,12 +126,14 @@ limit_refusal m =
     if m.time.last.time == max_time then Some PastHorizon
     else (if nat_le (2 ^ 62) m.time.last.micro then Some MicroLimit else (if nat_le (2 ^ 32) m.seq then Some CountLimit else None))
 
+-- a call that sends: first its place, then whether the plan has such a call, then the limits
 abbrev pub make_refusal : Plan → ℕ → Member → Call → Option CallRefusal
 make_refusal p f m call = by_phase m.time.phase (option_or (p.objects f call) (limit_refusal m))
 
 abbrev pub finish_refusal : Member → Option CallRefusal
 finish_refusal m = by_phase m.time.phase None
 
+-- only the end of a federate refuses a failure or a death
 abbrev pub end_refusal : Phase → Option CallRefusal
 end_refusal (Ended c) = Some (HasEnded c)
 end_refusal phase = None
@@ -137,6 +143,7 @@ abbrev pub holder_in : Plan → State → At → List ℕ → Option Unlawful
 holder_in p s cut [] = None
 holder_in p s cut (a ∷ more) = if before cut (p.first a (event_in s a)) then holder_in p s cut more else Some (Early a (event_in s a))
 
+-- only a federate that waits is granted, and only where no ancestor holds it
 abbrev pub grant_refusal : Plan → State → ℕ → Option Unlawful
 grant_refusal p s f = if is_asking (member_at s f).time.phase then holder_in p s (cut_in s f) (p.ancestors f) else Some NotAsked
 
@@ -145,10 +152,11 @@ has_failed (Ended Failed) = true
 has_failed (Ended Died) = true
 has_failed phase = false
 
+-- a federate's number that isn't the plan's comes first
 abbrev pub if_known : State → ℕ → Option Unlawful → Option Unlawful
 if_known s f refusal = if nat_lt f (length s.members) then refusal else Some StrangeNumber
 
--- a call of f that is refused for this
+-- the same of a call's refusal
 abbrev pub if_refused : State → ℕ → Option CallRefusal → Option Unlawful
 if_refused s f refusal = if_known s f (option_map Refused refusal)
 

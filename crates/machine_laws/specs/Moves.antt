@@ -22,6 +22,7 @@ pub data Doing : Type 0 where
   finishes : Doing
   fails : List ℕ → Doing
 
+-- the step by which it does so
 abbrev pub step_by : ℕ → Doing → Step
 step_by f enters = enter f
 step_by f (makes call) = make f call
@@ -33,6 +34,7 @@ step_by f (fails text) = fail f text
 abbrev pub Scripts : Type 0
 Scripts = ℕ → ℕ → List LogEntry → Doing
 
+-- a state of the machine and of its scripts
 pub record Play : Type 0 where
   pub state : State
   -- how many calls each federate has made
@@ -41,6 +43,7 @@ pub record Play : Type 0 where
 abbrev pub calls_of : Play → ℕ → ℕ
 calls_of w f = slice_index_or w.calls f 0
 
+-- why a call of a script is refused
 abbrev pub doing_refusal : Plan → ℕ → Member → Doing → Option CallRefusal
 doing_refusal p f m enters = option_map refusal_by_time (enter_refusal m.time)
 doing_refusal p f m (makes call) = make_refusal p f m call
@@ -53,6 +56,7 @@ abbrev pub or_failure : ℕ → Step → Option CallRefusal → Step
 or_failure f step None = step
 or_failure f step (Some refusal) = fail f (refusal_word refusal)
 
+-- the call of a script, or the failure in its place
 abbrev pub call_by : Plan → ℕ → Member → Doing → Step
 call_by p f m doing = or_failure f (step_by f doing) (doing_refusal p f m doing)
 
@@ -79,9 +83,11 @@ abbrev pub is_call : Step → Bool
 is_call (grant f) = false
 is_call step = true
 
+-- a grant is no call, so it leaves the count
 abbrev pub moved : Plan → Play → ℕ → Step → Play
 moved p w f step = record { state = after p w.state step; calls = if is_call step then slice_set w.calls f (calls_of w f + 1) else w.calls }
 
+-- f moves, if it may
 abbrev pub move : Plan → Scripts → ℕ → Play → Option Play
 move p scripts f w = option_map (moved p w f) (next_step p scripts w f)
 
@@ -100,6 +106,7 @@ abbrev pub Moves : Plan → Scripts → Play → List ℕ → Play → Type 0
 Moves p scripts w [] end = end ≡ w
 Moves p scripts w (f ∷ fs) end = (next : Play) × (move p scripts f w ≡ Some next) × Moves p scripts next fs end
 
+-- no federate may move
 abbrev pub IsStill : Plan → Scripts → Play → Type 0
 IsStill p scripts w = (f : ℕ) → move p scripts f w ≡ None
 

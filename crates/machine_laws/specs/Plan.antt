@@ -22,6 +22,7 @@ pub record Leg : Type 0 where
   pub delay : ℕ
   pub content : ℕ → Content
 
+-- the parts of a plan that the machine reads
 pub record Plan : Type 0 where
   pub settings : List Terms
   -- the core of a federate
@@ -38,6 +39,7 @@ pub record Plan : Type 0 where
   -- what a federate sends to another at this stamp or later isn't due earlier
   pub first : ℕ → At → At
 
+-- what a call of this sequence number sends: a publish to each input, a send one item or none
 abbrev pub legs_of : Plan → ℕ → ℕ → Call → List Leg
 legs_of p f seq (publish publication value) = p.publishes f publication value
 legs_of p f seq (send endpoint destination payload) = option_to_list (p.sends f endpoint seq destination payload)
@@ -48,6 +50,7 @@ due_of fed f leg =
     if nat_lt 0 leg.delay then record { time = fed.last.time + leg.delay; micro = 0 }
     else (if leg.target == f then next_of fed.last_cut else next_of fed.last)
 
+-- the item of a leg
 abbrev pub item_of : Fed → ℕ → ℕ → Leg → Parcel
 item_of fed f seq leg =
     record {
