@@ -92,11 +92,5 @@ pub struct EndRef {
     pub index: u16,
 }
 
-impl Copied for EndRef {
-    fn copy(&self, _alloc: Global) -> Result<Self, OutOfMemory> {
-        Ok(*self)
-    }
-}
-
 #[cfg(test)]
 mod tests;
