@@ -1,0 +1,7 @@
+pub mod Plan
+pub mod Script
+pub mod Step
+pub mod Machine
+pub mod Members
+pub mod Reference
+pub mod Text

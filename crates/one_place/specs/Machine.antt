@@ -1,0 +1,32 @@
+-- The machine: a plan and a state.
+use Rattle.std.specs.Prelude.{◌≡◌, ◌≢◌, Option, Some, None, Result, OnOk, OnErr, IfErr}
+use Rattle.machine_laws.specs.Machine.{State, Step, refusal_of, after}
+use Rattle.machine_laws.specs.declared.refusal.Unlawful.{Unlawful}
+use Rattle.machine_laws.specs.declared.refusal.Unlawful.TheVariants.{OutOfMemory}
+use Rattle.one_place.specs.declared.plan.Plan.{Plan}
+use Rattle.one_place.specs.declared.step.MachineStep.{MachineStep}
+use Rattle.one_place.specs.Plan.{wires_of}
+use Rattle.one_place.specs.Step.{step_of}
+
+pub record Stage : Type 0 where
+  pub plan : Plan
+  pub state : State
+
+-- the first condition of a step that fails
+abbrev pub refusal_at : Stage → MachineStep → Option Unlawful
+refusal_at s step = refusal_of (wires_of s.plan.names) s.state (step_of step)
+
+-- the machine after a lawful step
+abbrev pub stage_after : Stage → MachineStep → Stage
+stage_after s step = record s { state = after (wires_of s.plan.names) s.state (step_of step) }
+
+-- what a refused step tells: memory wants only for a lawful one
+abbrev pub TellsRefusal : Option Unlawful → Unlawful → Type 0
+TellsRefusal refusal e = (e ≢ OutOfMemory → refusal ≡ Some e) × (e ≡ OutOfMemory → refusal ≡ None)
+
+-- the step was made where it is lawful, and else refused by the first condition that fails; or memory was wanting
+pub record Steps {T : Type 0} (old : Stage) (step : MachineStep) (result : Result T Unlawful) (new : Stage) : Type 0 where
+  pub lawful : OnOk result (refusal_at old step ≡ None)
+  pub done : OnOk result (new ≡ stage_after old step)
+  pub refused : IfErr result (TellsRefusal (refusal_at old step))
+  pub unchanged : OnErr result (new ≡ old)

@@ -1,0 +1,13 @@
+//! The machine in one place: every federate at one look, and no node between them.
+#![tactic(auto)]
+
+mod members;
+mod plan;
+mod run;
+mod seat;
+mod step;
+
+pub use machine_laws::{CallRefusal, FedLog, LogEnd, LogEntry, Logs, Unlawful};
+pub use plan::{Action, Plan, Scenario, Script};
+pub use run::reference;
+pub use step::MachineStep;
