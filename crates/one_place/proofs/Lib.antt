@@ -1,1 +1,4 @@
+pub mod Halting
+pub mod Mapped
+pub mod Opening
 pub mod Seats

@@ -1,6 +1,6 @@
 -- The machine: a plan and a state.
 use Rattle.std.specs.Prelude.{◌≡◌, ◌≢◌, Option, Some, None, Result, OnOk, OnErr, IfErr}
-use Rattle.machine_laws.specs.Machine.{State, Step, refusal_of, after}
+use Rattle.machine_laws.specs.Machine.{State, refusal_of, after}
 use Rattle.machine_laws.specs.declared.refusal.Unlawful.{Unlawful}
 use Rattle.machine_laws.specs.declared.refusal.Unlawful.TheVariants.{OutOfMemory}
 use Rattle.one_place.specs.declared.plan.Plan.{Plan}

@@ -1,10 +1,11 @@
 -- What the code keeps of the machine's members: what changes often, and the logs apart.
-use Rattle.std.specs.Prelude.{ℕ, ◌≡◌, List, [], ◌∷◌, slice_index_or}
+use Rattle.std.specs.Prelude.{ℕ, ◌≡◌, List, [], ◌∷◌, slice_index_or, if◌then◌else◌}
 use Rattle.machine_laws.specs.declared.logs.LogEnd.{LogEnd}
 use Rattle.machine_laws.specs.declared.logs.LogEnd.TheVariants.{Ended, FailedText, Open}
 use Rattle.machine_laws.specs.declared.logs.FedLog.{FedLog}
-use Rattle.machine_laws.specs.Machine.{Member, default_terms, end_of}
-use Rattle.time_state.specs.Fed.{created}
+use Rattle.machine_laws.specs.Machine.{Member, default_terms, ended_member, end_of}
+use Rattle.time_state.specs.Fed.{created, is_live}
+use Rattle.time_state.specs.declared.Cause.TheVariants.{Halted}
 use Rattle.time_state.specs.declared.Phase.TheVariants.{Created}
 use Rattle.one_place.specs.declared.seat.Clock.{Clock}
 
@@ -50,3 +51,7 @@ clock_at cs f = slice_index_or cs f blank_clock
 
 abbrev pub log_at : List FedLog → ℕ → FedLog
 log_at ls f = slice_index_or ls f blank_log
+
+-- what a halt makes of a member
+abbrev pub halted_member : ℕ → Member → Member
+halted_member f m = if is_live m.time.phase then ended_member m (Halted f) else m

@@ -1,12 +1,15 @@
 //! The machine in one place: every federate at one look, and no node between them.
 #![tactic(auto)]
 
+mod machine;
 mod members;
 mod plan;
+mod refusal;
 mod run;
 mod seat;
 mod step;
 
+pub use machine::Machine;
 pub use machine_laws::{CallRefusal, FedLog, LogEnd, LogEntry, Logs, Unlawful};
 pub use plan::{Action, Plan, Scenario, Script};
 pub use run::reference;

@@ -12,6 +12,11 @@ pub struct Plan {
     pub names: Items<Text>,
 }
 
+impl Plan {
+    /// The number of the one core.
+    pub const CORE: u16 = 1;
+}
+
 /// One action of a script. A time is in nanoseconds.
 #[derive(Clone, Copy, Debug, PartialEq, Eq)]
 pub enum Action {

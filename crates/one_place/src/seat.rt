@@ -1,9 +1,9 @@
 // One federate of the machine: its clock and its log, which change together.
-ghost use Rattle.std.specs.Prelude.{◌≡◌, ◌≤◌, [], List, ℕ, None, OnOk, OnErr, true, false};
+ghost use Rattle.std.specs.Prelude.{◌≡◌, ◌≢◌, ◌≤◌, [], None, OnOk, OnErr, true};
 ghost use Rattle.helics_time.specs.Time.{max_time};
 ghost use Rattle.time_state.specs.Fed.{enter_refusal, request_refusal, is_asking, is_live};
 ghost use Rattle.machine_laws.specs.Machine.{begun_member, entered_member, requested_member, granted_member, ended_member, failed_member};
-ghost use Rattle.one_place.specs.Members.{member_of, IsSeat, IsSeatOf};
+ghost use Rattle.one_place.specs.Members.{member_of, IsSeat, IsSeatOf, halted_member};
 
 use hel_lists::{Items, OutOfMemory};
 use hel_values::TextValue;
@@ -56,8 +56,8 @@ pub fn grant(alloc: Global, clock: &mut Clock, log: &mut FedLog) -> Result<(), O
     requires seat { IsSeat clock.old log.old }
     requires asks { is_asking clock.old.time.phase ≡ true }
     ensures ok { OnOk result (IsSeatOf clock.new log.new (granted_member (member_of clock.old log.old) [] [])) }
-    ensures clock_stays { OnErr result (clock.new ≡ clock.old) }
-    ensures log_stays { OnErr result (log.new ≡ log.old) }
+    ensures same_clock { OnErr result (clock.new ≡ clock.old) }
+    ensures same_log { OnErr result (log.new ≡ log.old) }
 {
     let grant = clock.time.next_grant(None);
     log.entries.push(LogEntry {
@@ -73,7 +73,7 @@ pub fn grant(alloc: Global, clock: &mut Clock, log: &mut FedLog) -> Result<(), O
 pub fn end(clock: &mut Clock, log: &mut FedLog, cause: Cause)
     requires seat { IsSeat clock.old log.old }
     requires live { is_live clock.old.time.phase ≡ true }
-    requires no_failure { cause ≡ Cause.Failed → ⊥ }
+    requires otherwise { cause ≢ Cause.Failed }
     ensures { IsSeatOf clock.new log.new (ended_member (member_of clock.old log.old) cause) }
 {
     clock.time.end(cause, None);
@@ -88,4 +88,14 @@ pub fn fail(clock: &mut Clock, log: &mut FedLog, text: TextValue)
 {
     clock.time.end(Cause::Failed, None);
     log.end = LogEnd::FailedText(text);
+}
+
+/// A federate that lives is halted by `fed`.
+pub fn halt(clock: &mut Clock, log: &mut FedLog, fed: u16)
+    requires { IsSeat clock.old log.old }
+    ensures { IsSeatOf clock.new log.new (halted_member fed (member_of clock.old log.old)) }
+{
+    if !matches!(clock.time.phase(), Phase::Ended(_)) {
+        end(clock, log, Cause::Halted { fed });
+    }
 }

@@ -1,0 +1,279 @@
+ghost use Rattle.std.specs.Prelude.{◌≡◌, ◌≤◌, Some, None, option_map, OnOk, OnErr, IfOk};
+ghost use Rattle.helics_time.specs.Time.{max_time};
+ghost use Rattle.time_state.specs.Fed.{request_refusal};
+ghost use Rattle.machine_laws.specs.declared.refusal.CallRefusal.TheVariants.{NotOwner};
+ghost use Rattle.machine_laws.specs.Refusal.{refusal_by_time};
+ghost use Rattle.machine_laws.specs.Machine.{KeepsTime, member_at, opening, logs_of, by_phase, end_refusal, if_refused};
+ghost use Rattle.one_place.specs.Plan.{wires_of};
+ghost use Rattle.one_place.specs.Step.{step_of};
+ghost use Rattle.one_place.specs.Machine.{refusal_at, stage_after, Steps};
+
+use crate::members::Members;
+use crate::{Logs, MachineStep, Plan, Unlawful, refusal};
+use hel_lists::OutOfMemory;
+use hel_values::TextValue;
+use iteration_rules::Mode;
+use std::alloc::Global;
+use std::marker::Model;
+use time_state::{Cause, Phase};
+
+/// The machine in one place: all federates of a plan at one look. Its steps are made by `step`, which
+/// refuses what isn't lawful: docs/RULES.md, Steps.
+#[derive(Debug, Drop)]
+pub struct Machine {
+    alloc: Global,
+    plan: Plan,
+    begun: bool,
+    members: Members,
+}
+
+impl Model for Machine {
+    ghost use Rattle.std.specs.Prelude.{[]};
+    ghost use Rattle.one_place.specs.Machine.{Stage};
+
+    ghost Value = { Stage };
+
+    ghost view = { λ m. record {
+      plan = m.plan;
+      state = record { begun = m.begun; members = m.members; items = [] };
+    } };
+}
+
+impl Machine {
+    /// The machine before the beginning: every federate is Created.
+    #[tactic(auto, using(crate::proofs::Opening::new_members))]
+    pub fn open(alloc: Global, plan: Plan) -> Result<Machine, OutOfMemory>
+        ensures { IfOk result (λ machine. machine ≡ record { plan = plan; state = opening (wires_of plan.names) }) }
+    {
+        let members = Members::new(alloc, plan.names.len())?;
+        Ok(Machine {
+            alloc,
+            plan,
+            begun: false,
+            members,
+        })
+    }
+
+    /// What each federate was granted, and how it stands.
+    pub fn logs(&self) -> &Logs
+        ensures { result.now.feds ≡ logs_of self.now.state }
+    {
+        self.members.logs()
+    }
+
+    /// Gives up the machine for its logs.
+    pub fn into_logs(self) -> Logs
+        ensures { result.feds ≡ logs_of self.state }
+    {
+        let Machine {
+            alloc: _,
+            plan: _,
+            begun: _,
+            members,
+        } = self;
+        members.into_logs()
+    }
+
+    /// The phase of a federate, and `Created` where the plan has none of this number.
+    pub fn phase(&self, f: u16) -> Phase
+        ensures { result ≡ (member_at self.now.state f).time.phase }
+    {
+        match self.members.time(f) {
+            Some(time) => time.phase(),
+            None => Phase::Created,
+        }
+    }
+
+    /// Makes a step where it is lawful, and else names the first condition that fails, in the order of
+    /// `Unlawful`. A refused step changes nothing, and memory is wanted for a lawful step alone.
+    pub fn step(&mut self, step: MachineStep) -> Result<(), Unlawful>
+        requires { KeepsTime (step_of step) }
+        ensures { Steps self.old step result self.new }
+    {
+        if let Some(refusal) = self.refusal(&step) {
+            return Err(refusal);
+        }
+        self.apply(step)?;
+        Ok(())
+    }
+
+    /// Why a step isn't lawful: the first condition that fails.
+    pub fn refusal(&self, step: &MachineStep) -> Option<Unlawful>
+        ensures { result ≡ refusal_at self.now step.now }
+    {
+        match step {
+            MachineStep::Begin => self.begin_refusal(),
+            MachineStep::Enter(f) => self.enter_refusal(*f),
+            MachineStep::Publish { fed, .. } => self.make_refusal(*fed),
+            MachineStep::Send { fed, .. } => self.make_refusal(*fed),
+            MachineStep::Request { fed, .. } => self.request_refusal(*fed),
+            MachineStep::Grant(f) => self.grant_refusal(*f),
+            MachineStep::Finish(f) => self.finish_refusal(*f),
+            MachineStep::Fail { fed, .. } => self.end_refusal(*fed),
+            MachineStep::Die(f) => self.end_refusal(*f),
+            MachineStep::Halt { core, fed } => self.halt_refusal(*core, *fed),
+        }
+    }
+
+    /// Makes a lawful step. The machine is unchanged where memory is wanting.
+    pub(crate) fn apply(&mut self, step: MachineStep) -> Result<(), OutOfMemory>
+        requires lawful { refusal_at self.old step ≡ None }
+        requires times { KeepsTime (step_of step) }
+        ensures ok { OnOk result (self.new ≡ stage_after self.old step) }
+        ensures err { OnErr result (self.new ≡ self.old) }
+    {
+        match step {
+            MachineStep::Begin => self.begin(),
+            MachineStep::Enter(f) => self.enter(f),
+            MachineStep::Publish { .. } => unreachable!(),
+            MachineStep::Send { .. } => unreachable!(),
+            MachineStep::Request { fed, time, mode } => self.request(fed, time, mode),
+            MachineStep::Grant(f) => self.grant(f)?,
+            MachineStep::Finish(f) => self.finish(f),
+            MachineStep::Fail { fed, text } => self.fail(fed, text),
+            MachineStep::Die(f) => self.die(f),
+            MachineStep::Halt { core, fed } => self.halt(core, fed),
+        }
+        Ok(())
+    }
+}
+
+// Each kind of step: why it is refused, and what it does.
+impl Machine {
+    fn begin_refusal(&self) -> Option<Unlawful>
+        ensures { result ≡ refusal_at self.now MachineStep.Begin }
+    {
+        if self.begun {
+            Some(Unlawful::BegunTwice)
+        } else {
+            None
+        }
+    }
+
+    fn begin(&mut self)
+        ensures { self.new ≡ stage_after self.old MachineStep.Begin }
+    {
+        self.members.begin();
+        self.begun = true;
+    }
+
+    fn enter_refusal(&self, f: u16) -> Option<Unlawful>
+        ensures { result ≡ refusal_at self.now (MachineStep.Enter f) }
+    {
+        match self.members.time(f) {
+            Some(time) => refusal::enter_refusal(time).map(Unlawful::Refused),
+            None => Some(Unlawful::StrangeNumber),
+        }
+    }
+
+    fn enter(&mut self, f: u16)
+        requires { refusal_at self.old (MachineStep.Enter f) ≡ None }
+        ensures { self.new ≡ stage_after self.old (MachineStep.Enter f) }
+    {
+        self.members.enter(usize::from(f));
+    }
+
+    fn make_refusal(&self, f: u16) -> Option<Unlawful>
+        ensures { result ≡ if_refused self.now.state f (by_phase (member_at self.now.state f).time.phase (Some NotOwner)) }
+    {
+        match self.members.time(f) {
+            Some(time) => refusal::make_refusal(time).map(Unlawful::Refused),
+            None => Some(Unlawful::StrangeNumber),
+        }
+    }
+
+    fn request_refusal(&self, f: u16) -> Option<Unlawful>
+        ensures { result ≡ if_refused self.now.state f (option_map refusal_by_time (request_refusal (member_at self.now.state f).time)) }
+    {
+        match self.members.time(f) {
+            Some(time) => refusal::request_refusal(time).map(Unlawful::Refused),
+            None => Some(Unlawful::StrangeNumber),
+        }
+    }
+
+    fn request(&mut self, f: u16, time: u64, mode: Mode)
+        requires lawful { refusal_at self.old (MachineStep.Request f time mode) ≡ None }
+        requires fits { time ≤ max_time }
+        ensures { self.new ≡ stage_after self.old (MachineStep.Request f time mode) }
+    {
+        self.members.request(usize::from(f), time, mode);
+    }
+
+    fn grant_refusal(&self, f: u16) -> Option<Unlawful>
+        ensures { result ≡ refusal_at self.now (MachineStep.Grant f) }
+    {
+        match self.members.time(f) {
+            Some(time) => refusal::grant_refusal(time),
+            None => Some(Unlawful::StrangeNumber),
+        }
+    }
+
+    fn grant(&mut self, f: u16) -> Result<(), OutOfMemory>
+        requires { refusal_at self.old (MachineStep.Grant f) ≡ None }
+        ensures ok { OnOk result (self.new ≡ stage_after self.old (MachineStep.Grant f)) }
+        ensures err { OnErr result (self.new ≡ self.old) }
+    {
+        self.members.grant(self.alloc, usize::from(f))
+    }
+
+    fn finish_refusal(&self, f: u16) -> Option<Unlawful>
+        ensures { result ≡ refusal_at self.now (MachineStep.Finish f) }
+    {
+        match self.members.time(f) {
+            Some(time) => refusal::finish_refusal(time).map(Unlawful::Refused),
+            None => Some(Unlawful::StrangeNumber),
+        }
+    }
+
+    fn finish(&mut self, f: u16)
+        requires { refusal_at self.old (MachineStep.Finish f) ≡ None }
+        ensures { self.new ≡ stage_after self.old (MachineStep.Finish f) }
+    {
+        self.members.end(usize::from(f), Cause::Finished);
+    }
+
+    // A failure and a death are refused alike.
+    fn end_refusal(&self, f: u16) -> Option<Unlawful>
+        ensures { result ≡ if_refused self.now.state f (end_refusal (member_at self.now.state f).time.phase) }
+    {
+        match self.members.time(f) {
+            Some(time) => refusal::end_refusal(time).map(Unlawful::Refused),
+            None => Some(Unlawful::StrangeNumber),
+        }
+    }
+
+    fn fail(&mut self, f: u16, text: TextValue)
+        requires { refusal_at self.old (MachineStep.Fail f text) ≡ None }
+        ensures { self.new ≡ stage_after self.old (MachineStep.Fail f text) }
+    {
+        self.members.fail(usize::from(f), text);
+    }
+
+    fn die(&mut self, f: u16)
+        requires { refusal_at self.old (MachineStep.Die f) ≡ None }
+        ensures { self.new ≡ stage_after self.old (MachineStep.Die f) }
+    {
+        self.members.end(usize::from(f), Cause::Died);
+    }
+
+    fn halt_refusal(&self, core: u16, f: u16) -> Option<Unlawful>
+        ensures { result ≡ refusal_at self.now (MachineStep.Halt core f) }
+    {
+        if core != Plan::CORE {
+            return Some(Unlawful::StrangeNumber);
+        }
+        match self.members.time(f) {
+            Some(time) => refusal::halt_refusal(time),
+            None => Some(Unlawful::StrangeNumber),
+        }
+    }
+
+    // All federates stand on the one core.
+    #[tactic(auto, using(crate::proofs::Halting::all_halted))]
+    fn halt(&mut self, core: u16, f: u16)
+        requires { refusal_at self.old (MachineStep.Halt core f) ≡ None }
+        ensures { self.new ≡ stage_after self.old (MachineStep.Halt core f) }
+    {
+        self.members.halt(f);
+    }
+}
