@@ -115,6 +115,10 @@ pub sooner_total : (i j : Parcel) → is_sooner i j ≡ false → is_sooner j i 
 unfolding is_sooner
 sooner_total i j a b = lex_total (due_key i) (due_key j) a b
 
+pub sooner_same_place : (i j : Parcel) → due_key i ≡ due_key j → is_sooner i j ≡ false
+unfolding is_sooner
+sooner_same_place i j same = ap (λ (l : List ℕ). lex l (due_key j)) same ∙ lex_same (due_key j)
+
 pub before_not_both : (i j : Parcel) → comes_before i j ≡ true → comes_before j i ≡ true → ⊥
 before_not_both i j a b = absurd (true≢false (sym b ∙ comes_before_order.one_way i j a))
 

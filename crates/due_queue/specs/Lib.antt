@@ -1,4 +1,7 @@
 pub mod Item
+pub mod Laws
 pub mod Order
+pub mod Queue
+pub mod Runs
 pub mod Sameness
 pub mod Sorted

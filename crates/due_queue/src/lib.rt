@@ -2,5 +2,9 @@
 #![tactic(auto)]
 
 mod item;
+mod laws;
+mod queue;
 
 pub use item::{Content, Item, Message};
+pub use laws::{canonical_laws, queue_laws};
+pub use queue::DueQueue;
