@@ -1,10 +1,11 @@
--- What calls, grants and ends do to a federate's event.
-use Rattle.std.proofs.Common.{◌≡◌, ◌⊎◌, inl, inr, ℕ, ◌+◌, ◌*◌, ◌<◌, ◌≤◌, ◌^◌, Bool, true, false, arith, refl, sym, ◌∙◌, subst, List, []}
-use Rattle.std.specs.Prelude.{nat_lt, nat_le, ◌==◌, ◌&&◌, ◌||◌, if◌then◌else◌}
+-- Where events lie, and what turns and ends do to them and to what each federate keeps.
+use Rattle.std.proofs.Common.{◌≡◌, inl, inr, ℕ, ◌<◌, ◌≤◌, ◌^◌, Bool, true, false, arith, refl, sym, ◌∙◌, ap, subst, List, []}
+use Rattle.std.specs.Prelude.{◌↔◌, ◌-◌, nat_lt, nat_le, ◌==◌, ◌||◌, if◌then◌else◌}
 use Rattle.std.proofs.lemmas.Bool.{cases_lt}
 use Rattle.std.proofs.lemmas.Bool.Decides.{nat_tests}
 use Rattle.helics_time.specs.Time.{max_time, horizon}
-use Rattle.helics_time.specs.Stamp.{At, next_of, rank, IsDue}
+use Rattle.helics_time.specs.Stamp.{At, IsStamp, never, rank, IsDue}
+use Rattle.time_state.proofs.Phases.{finished_or_not}
 use Rattle.time_state.specs.Fed.{Fed, IsEvent, IsFed, request_stamp, event_of}
 use Rattle.time_state.specs.declared.Phase.{Phase}
 use Rattle.time_state.specs.declared.Phase.TheVariants.{Created, Initializing, Entering, Running, Waiting, Ended}
@@ -18,7 +19,7 @@ use Rattle.time_state.specs.declared.Cause.TheVariants.{Finished, Failed, Died, 
 use Rattle.std.proofs.Common.{ℕ, ◌≢◌}
 use Rattle.std.specs.Prelude.{None, Some, not}
 use Rattle.helics_time.specs.Settings.{Terms, IsTerms}
-use Rattle.time_state.specs.Fed.{granted, ended, requested, created, enter_refusal, request_refusal, is_first, is_asking, is_live, zero_stamp}
+use Rattle.time_state.specs.Fed.{ended, requested, created, enter_refusal, request_refusal, is_first, is_live, zero_stamp}
 use Rattle.iteration_rules.specs.Iteration.{iterates}
 use Rattle.iteration_rules.specs.declared.Mode.{Mode}
 use Rattle.iteration_rules.specs.declared.Mode.TheVariants.{Next}
@@ -105,6 +106,25 @@ event_is f dues fed due other = by_phase f.phase refl
     by_phase (Ended Failed) is = rw is fed.kept
     by_phase (Ended Died) is = rw is fed.kept
     by_phase (Ended (Halted d)) is = rw is fed.kept
+
+pub event_stamp : (f : Fed) (dues : List At) → IsFed f → Each IsDue dues → IsStamp (event_of f dues)
+event_stamp f dues fed due = elim (finished_or_not f.phase) [
+  | inl is ↦ rw is (omega arith, omega arith)
+  | inr other ↦ let event = event_is f dues fed due other in (event.time, omega (arith, event.micro))
+]
+
+-- the event is never exactly where it has finished
+pub never_is : (f : Fed) (dues : List At) → IsFed f → Each IsDue dues → (event_of f dues ≡ never) ↔ (f.phase ≡ Ended Finished)
+never_is f dues fed due = (
+  λ e. elim (finished_or_not f.phase) [
+    | inl is ↦ is
+    | inr other ↦
+        let event = event_is f dues fed due other in
+        let micro : (event_of f dues).micro ≡ 2 ^ 64 - 1 = ap (λ (s : At). s.micro) e in
+        absurd (omega (arith, event.micro, micro))
+  ],
+  λ is. rw is refl,
+)
 
 -- what is kept in another phase, where nothing is asked for
 fed_in : (f : Fed) (p : Phase) (kept : At) → IsFed f → IsEvent kept → (p ≡ Waiting → ⊥) → (is_first p ≡ true → is_first f.phase ≡ true) → IsFed (record f { phase = p; kept = kept })
@@ -202,79 +222,6 @@ opening_stands s terms = record {
   cut_high = omega arith;
   kept = record { time = omega arith; micro = omega arith };
 }
-
--- after a grant at s
-after_at : Fed → At → At → ℕ → Fed
-after_at f s cut count = record f { phase = Running; last = s; last_cut = cut; count = count }
-
-after_stands : (f : Fed) (s cut : At) (count : ℕ) → IsFed f → (s.time < horizon) ⊎ (s.time ≡ max_time) → s.micro ≤ 2 ^ 62 + 1 + count → count ≤ f.settings.max_iterations → (cut ≡ s) ⊎ (cut ≡ next_of s) → IsFed (after_at f s cut count)
-unfolding after_at
-after_stands f s cut count fed time micro few cut_is =
-    let small : s.micro ≤ 2 ^ 62 + 20000 = omega (arith, fed.settings.few_iterations) in
-    let fits : s.time ≤ max_time = elim time [ inl l ↦ omega arith | inr e ↦ omega arith ] in
-    let c = cut_near s cut fits small cut_is in
-    record {
-      settings = fed.settings;
-      time = tests s.time time;
-      micro = micro;
-      count = few;
-      asked = fed.asked;
-      waiting = λ e. cc;
-      may_iterate = λ e it. cc;
-      first = λ e. absurd (false≢true e);
-      none = λ e. absurd (false≢true e);
-      cut_is = c.0;
-      cut_low = c.1;
-      cut_high = c.2;
-      kept = fed.kept;
-    }
-  where
-    tests : (t : ℕ) → (t < horizon) ⊎ (t ≡ max_time) → (nat_lt t horizon || t == max_time) ≡ true
-    tests t either = grind (arith, nat_tests)
-
-    next_near : (s : At) → s.time ≤ max_time → s.micro ≤ 2 ^ 62 + 20000 → IsEvent (next_of s) × (rank s ≤ rank (next_of s)) × (rank (next_of s) ≤ rank s + 1)
-    next_near s fits small = (record { time = grind (arith, nat_tests); micro = grind (arith, nat_tests) }, grind (arith, nat_tests), grind (arith, nat_tests))
-
-    cut_near : (s cut : At) → s.time ≤ max_time → s.micro ≤ 2 ^ 62 + 20000 → (cut ≡ s) ⊎ (cut ≡ next_of s) → IsEvent cut × (rank s ≤ rank cut) × (rank cut ≤ rank s + 1)
-    cut_near s cut fits small either = elim either [
-      | inl e ↦ subst (λ (c : At). IsEvent c × (rank s ≤ rank c) × (rank c ≤ rank s + 1)) (sym e) (record { time = fits; micro = omega arith }, omega arith, omega arith)
-      | inr e ↦ subst (λ (c : At). IsEvent c × (rank s ≤ rank c) × (rank c ≤ rank s + 1)) (sym e) (next_near s fits small)
-    ]
-
-granted_waiting : (f : Fed) (dues : List At) → f.phase ≡ Waiting →
-    granted f dues ≡ after_at f (event_of f dues) (if f.settings.wait && not ((event_of f dues).time == f.last.time) then next_of (event_of f dues) else event_of f dues) (if (event_of f dues).time == f.last.time then f.count + 1 else 0)
-unfolding after_at
-granted_waiting f dues waits = rw waits refl
-
-granted_entering : (f : Fed) (dues : List At) → f.phase ≡ Entering → granted f dues ≡ after_at f (record { time = 0; micro = 1 }) (record { time = 0; micro = 1 }) 0
-unfolding after_at
-granted_entering f dues is = rw is refl
-
-pub grant_stands : (f : Fed) (dues : List At) → IsFed f → Each IsDue dues → is_asking f.phase ≡ true → IsFed (granted f dues)
-grant_stands f dues fed due asks = by_phase f.phase refl
-  where
-    counts : (t m now n most : ℕ) → m ≤ 2 ^ 62 + 2 + n → (now < t → m ≤ 2 ^ 62 + 1) → (t ≡ now → n < most) → n ≤ 10000 → (last : ℕ) → now * 2 ^ 64 + last < t * 2 ^ 64 + m → (m ≤ 2 ^ 62 + 1 + (if t == now then n + 1 else 0)) × ((if t == now then n + 1 else 0) ≤ most)
-    counts t m now n most small new same few last rises = grind (arith, nat_tests)
-
-    count_of : (f : Fed) (s : At) → IsFed f → Goes f s → (s.micro ≤ 2 ^ 62 + 1 + (if s.time == f.last.time then f.count + 1 else 0)) × ((if s.time == f.last.time then f.count + 1 else 0) ≤ f.settings.max_iterations)
-    count_of f s fed goes = counts s.time s.micro f.last.time f.count f.settings.max_iterations goes.micro goes.micro_new goes.same (omega (arith, fed.count, fed.settings.few_iterations)) f.last.micro goes.rises
-
-    cut_cases : (w : Bool) (s : At) → ((if w then next_of s else s) ≡ s) ⊎ ((if w then next_of s else s) ≡ next_of s)
-    cut_cases true s = inr refl
-    cut_cases false s = inl refl
-
-    by_phase : (p : Phase) → f.phase ≡ p → IsFed (granted f dues)
-    by_phase Entering is = subst (λ (g : Fed). IsFed g) (sym (granted_entering f dues is)) (after_stands f (record { time = 0; micro = 1 }) (record { time = 0; micro = 1 }) 0 fed (inl (omega arith)) (omega arith) (omega arith) (inl refl))
-    by_phase Waiting is =
-        let s : At = event_of f dues in
-        let goes = event_goes f dues fed is due in
-        let counts = count_of f s fed goes in
-        subst (λ (g : Fed). IsFed g) (sym (granted_waiting f dues is))
-        (after_stands f s _ _ fed goes.time counts.0 counts.1 (cut_cases (f.settings.wait && not (s.time == f.last.time)) s))
-    by_phase Created is = let e = rw is at asks in absurd (false≢true e)
-    by_phase Initializing is = let e = rw is at asks in absurd (false≢true e)
-    by_phase Running is = let e = rw is at asks in absurd (false≢true e)
-    by_phase (Ended c) is = let e = rw is at asks in absurd (false≢true e)
 
 pub end_stands : (f : Fed) (c : Cause) (dues : List At) → IsFed f → Each IsDue dues → is_live f.phase ≡ true → IsFed (ended f c dues)
 end_stands f c dues fed due live =

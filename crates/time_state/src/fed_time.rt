@@ -1,17 +1,18 @@
-ghost use Rattle.std.specs.Prelude.{◌≡◌, ◌≤◌, ◌^◌, ℕ, [], List, true, OnOk, OnErr, ◌+◌};
+ghost use Rattle.std.specs.Prelude.{◌≡◌, ◌≤◌, true, OnOk, OnErr, ◌+◌};
 ghost use Rattle.std.specs.Result.{result_err};
 ghost use Rattle.std.specs.Option.{option_to_list, ForSome};
 ghost use Rattle.helics_time.specs.Time.{max_time};
-ghost use Rattle.helics_time.specs.Stamp.{before, next_of, IsDue};
-ghost use Rattle.helics_time.specs.Settings.{Terms, delta_of};
-ghost use Rattle.time_state.specs.Fed.{Fed, IsStep, is_asking, is_iterating, created, granted, requested, ended, event_of, cut_of, cut_at, request_stamp, item_stamp, is_live, grant_of, enter_refusal, request_refusal};
+ghost use Rattle.helics_time.specs.Stamp.{before, IsDue};
+ghost use Rattle.helics_time.specs.Settings.{delta_of};
+ghost use Rattle.time_state.specs.Fed.{IsStep, is_asking, is_iterating, created, granted, granted_at, requested, ended, event_of, cut_of, cut_at, request_stamp, item_stamp, is_live, grant_of, grant_at, enter_refusal, request_refusal};
 
 use crate::{Cause, Grant, Phase, TimeRefusal};
 use helics_time::{MAX, Settings, Stamp};
 use iteration_rules::{Kind, Mode, effective_mode};
 use std::marker::Model;
 
-/// The time of one federate.
+/// The time of one federate. Where a call takes `least`, that is the least due of the items that the
+/// federate wasn't handed yet, and `None` where there is none.
 #[derive(Debug, Drop)]
 pub struct FedTime {
     settings: Settings,
@@ -37,6 +38,7 @@ impl Model for FedTime {
 }
 
 impl FedTime {
+    /// A federate with these settings, before the federation has begun.
     pub fn new(settings: Settings) -> FedTime
         ensures { result ≡ created settings }
     {
@@ -53,24 +55,28 @@ impl FedTime {
         }
     }
 
+    /// Its phase.
     pub fn phase(&self) -> Phase
         ensures { result ≡ self.now.phase }
     {
         self.phase
     }
 
+    /// The stamp of its last grant, (0, 0) before the first.
     pub fn own(&self) -> Stamp
         ensures { result ≡ self.now.last }
     {
         self.last
     }
 
+    /// The cut of its last grant, (0, 0) before the first.
     pub fn last_cut(&self) -> Stamp
         ensures { result ≡ self.now.last_cut }
     {
         self.last_cut
     }
 
+    /// The federation begins.
     pub fn begin(&mut self)
         requires { self.old.phase ≡ Phase.Created }
         ensures { self.new ≡ record self.old { phase = Phase.Initializing } }
@@ -94,7 +100,7 @@ impl FedTime {
         }
     }
 
-    /// Asks for a time.
+    /// Asks for a time, in nanoseconds.
     pub fn request(&mut self, time: u64, mode: Mode) -> Result<(), TimeRefusal>
         requires { time ≤ max_time }
         ensures answer { request_refusal self.old ≡ result_err result }
@@ -116,7 +122,7 @@ impl FedTime {
         }
     }
 
-    // The stamp of what it asked for.
+    // The stamp of what it asks for.
     fn asked(&self) -> Stamp
         requires { self.now.phase ≡ Phase.Waiting }
         ensures value { result ≡ request_stamp self.now }
@@ -134,7 +140,7 @@ impl FedTime {
         }
     }
 
-    // The earliest time of the next step.
+    // The earliest time of a grant that doesn't iterate.
     fn earliest(&self) -> u64
         requires { self.now.phase ≡ Phase.Waiting }
         ensures value { result ≡ self.now.last.time + delta_of self.now.settings }
@@ -143,7 +149,7 @@ impl FedTime {
         self.last.time + self.settings.time_delta.max(1)
     }
 
-    // When an item of this due could be handed over.
+    // The stamp at which it may be handed an item of this due.
     fn reached(&self, due: Stamp) -> Stamp
         requires waits { self.now.phase ≡ Phase.Waiting }
         requires due { IsDue due }
@@ -170,7 +176,8 @@ impl FedTime {
         }
     }
 
-    /// The stamp at which it would act next, where `least` is the least due of its undelivered items.
+    /// The stamp at which it acts next (docs/RULES.md, Event). Where it waits for a grant, that is the
+    /// stamp of the grant.
     pub fn event(&self, least: Option<Stamp>) -> Stamp
         requires { ForSome least IsDue }
         ensures value { result ≡ event_of self.now (option_to_list least) }
@@ -195,42 +202,20 @@ impl FedTime {
         }
     }
 
-    // What is due by it is handed over at a grant at this stamp.
-    fn cut_of_stamp(&self, stamp: Stamp) -> Stamp
-        ensures { result ≡ cut_at self.now stamp }
-    {
-        let is_entry = self.phase == Phase::Entering;
-        if !is_entry && self.settings.wait && stamp.time != self.last.time {
-            stamp.next()
-        } else {
-            stamp
-        }
-    }
-
-    /// What is due by it is handed over at the next grant.
+    /// What is due by it is handed over at the next grant (docs/RULES.md, Cut).
     pub fn cut(&self, least: Option<Stamp>) -> Stamp
         requires { ForSome least IsDue }
         ensures { result ≡ cut_of self.now (option_to_list least) }
     {
-        self.cut_of_stamp(self.event(least))
+        self.cut_at(self.event(least))
     }
 
-    /// What it would be granted.
+    /// What the next grant tells.
     pub fn next_grant(&self, least: Option<Stamp>) -> Grant
         requires { ForSome least IsDue }
         ensures { result ≡ grant_of self.now (option_to_list least) }
     {
-        let stamp = self.event(least);
-        let iterates = self.phase != Phase::Entering && stamp.time == self.last.time;
-        Grant {
-            time: stamp.time,
-            micro: stamp.micro,
-            kind: if iterates {
-                Kind::Iterating
-            } else {
-                Kind::NextStep
-            },
-        }
+        self.next_grant_at(self.event(least))
     }
 
     /// Grants what it waits for.
@@ -241,26 +226,10 @@ impl FedTime {
         ensures after { self.new ≡ granted self.old (option_to_list least) }
         ensures rises { before self.old.last self.new.last ≡ true }
     {
-        let stamp = self.event(least);
-        let cut = self.cut_of_stamp(stamp);
-        let iterates = self.phase == Phase::Waiting && stamp.time == self.last.time;
-        let kind = if iterates {
-            Kind::Iterating
-        } else {
-            Kind::NextStep
-        };
-        self.count = if iterates { self.count + 1 } else { 0 };
-        self.phase = Phase::Running;
-        self.last = stamp;
-        self.last_cut = cut;
-        Grant {
-            time: stamp.time,
-            micro: stamp.micro,
-            kind,
-        }
+        self.grant_at(self.event(least))
     }
 
-    /// Ends it.
+    /// Ends it. It keeps its event.
     pub fn end(&mut self, cause: Cause, least: Option<Stamp>)
         requires live { is_live self.old.phase ≡ true }
         requires due { ForSome least IsDue }
@@ -268,5 +237,59 @@ impl FedTime {
     {
         self.kept = self.event(least);
         self.phase = Phase::Ended(cause);
+    }
+}
+
+// The same for a caller that has the event.
+impl FedTime {
+    fn is_iterating(&self, stamp: Stamp) -> bool
+        ensures { result ≡ is_iterating self.now stamp }
+    {
+        self.phase == Phase::Waiting && stamp.time == self.last.time
+    }
+
+    /// `cut`, where `stamp` is the event.
+    pub fn cut_at(&self, stamp: Stamp) -> Stamp
+        ensures { result ≡ cut_at self.now stamp }
+    {
+        if self.phase == Phase::Waiting && self.settings.wait && stamp.time != self.last.time {
+            stamp.next()
+        } else {
+            stamp
+        }
+    }
+
+    /// `next_grant`, where `stamp` is the event.
+    pub fn next_grant_at(&self, stamp: Stamp) -> Grant
+        ensures { result ≡ grant_at self.now stamp }
+    {
+        Grant {
+            time: stamp.time,
+            micro: stamp.micro,
+            kind: if self.is_iterating(stamp) {
+                Kind::Iterating
+            } else {
+                Kind::NextStep
+            },
+        }
+    }
+
+    /// `grant`, where `stamp` is the event.
+    pub fn grant_at(&mut self, stamp: Stamp) -> Grant
+        requires asks { is_asking self.old.phase ≡ true }
+        requires step { IsStep self.old stamp }
+        ensures grant { result ≡ grant_at self.old stamp }
+        ensures after { self.new ≡ granted_at self.old stamp }
+    {
+        let grant = self.next_grant_at(stamp);
+        let cut = self.cut_at(stamp);
+        self.count = match grant.kind {
+            Kind::Iterating => self.count + 1,
+            Kind::NextStep => 0,
+        };
+        self.last = stamp;
+        self.last_cut = cut;
+        self.phase = Phase::Running;
+        grant
     }
 }
