@@ -3,7 +3,8 @@ use Rattle.std.proofs.Common.{refl}
 use Rattle.time_state.specs.Laws.{FedLaws}
 use Rattle.time_state.proofs.Stamps.{request_goes, item_above, due_below, item_rises}
 use Rattle.time_state.proofs.Events.{at_most_none, at_most_each, greatest}
-use Rattle.time_state.proofs.Turns.{event_is, never_is, ends_keep, opening_stands, turn_stands, turns_rise, end_stands}
+use Rattle.time_state.proofs.Ranges.{event_is, never_is}
+use Rattle.time_state.proofs.Turns.{ends_keep, opening_stands, turn_stands, turns_rise, end_stands}
 use Rattle.time_state.proofs.Grants.{cut_low, cut_high, cut_is, grant_steps, grant_stands}
 use Rattle.time_state.proofs.Least.{least_decides}
 

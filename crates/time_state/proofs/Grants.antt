@@ -14,7 +14,7 @@ use Rattle.time_state.specs.declared.Cause.TheVariants.{Finished}
 use Rattle.time_state.proofs.Phases.{waiting_or_not}
 use Rattle.time_state.proofs.Stamps.{Steps, Goes, iterating_waits}
 use Rattle.time_state.proofs.Events.{stamp_of}
-use Rattle.time_state.proofs.Turns.{event_goes, event_steps, last_event, event_is, event_stamp}
+use Rattle.time_state.proofs.Ranges.{event_goes, event_steps, last_event, event_is, event_stamp}
 
 -- where it doesn't wait, a cut is the stamp of its grant
 cut_idle : (f : Fed) (s : At) → f.phase ≢ Waiting → cut_at f s ≡ s

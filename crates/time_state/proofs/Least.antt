@@ -7,7 +7,7 @@ use Rattle.helics_time.proofs.Ranks.{same_of}
 use Rattle.hel_lists.specs.Members.{IsIn, Each}
 use Rattle.time_state.specs.Laws.{Counts}
 use Rattle.time_state.proofs.Events.{at_most_none, at_most_each, greatest}
-use Rattle.time_state.proofs.Turns.{event_stamp}
+use Rattle.time_state.proofs.Ranges.{event_stamp}
 
 -- over fewer items the event is the same or later
 pub event_fewer : (f : Fed) (dues fewer : List At) → IsFed f → Each IsDue dues → ((d : At) → IsIn d fewer → IsIn d dues) → rank (event_of f dues) ≤ rank (event_of f fewer)

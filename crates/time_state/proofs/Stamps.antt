@@ -13,31 +13,31 @@ use Rattle.iteration_rules.specs.declared.Mode.{Mode}
 use Rattle.iteration_rules.specs.declared.Mode.TheVariants.{Next, Force, IfNeeded}
 use Rattle.time_state.specs.declared.Phase.TheVariants.{Waiting}
 
--- an item's stamp, where x is the least lawful time that it may have
+-- an item's stamp, where x is the least time above now at which it may be handed over
 abbrev pub stamp_by : Bool → ℕ → ℕ → ℕ → At → At
 stamp_by it now m x d =
     if it && nat_le d.time now
     then record { time = now; micro = if d.time == now then max (m + 1) d.micro else m + 1 }
     else (if x == d.time then d else record { time = x; micro = 0 })
 
+-- that time
 pub time_of : Fed → At → ℕ
 time_of f d = up_of f.settings (max d.time (f.last.time + delta_of f.settings))
 
-pub stamp_is : (f : Fed) (d : At) → item_stamp f d ≡ stamp_by (iterates f.request.mode) f.last.time f.last.micro (time_of f d) d
-unfolding time_of
-stamp_is f d = refl
-
+-- it is above the last grant (now, m)
 pub by_above : (it : Bool) (now m x : ℕ) (d : At) → now < x → d.time ≤ x → m < 2 ^ 63 → d.micro < 2 ^ 64 → now * 2 ^ 64 + m < rank (stamp_by it now m x d)
 by_above it now m x d later after small due = grind (arith, nat_tests)
 
+-- it isn't below the due
 pub by_due : (it : Bool) (now m x : ℕ) (d : At) → now < x → d.time ≤ x → m < 2 ^ 63 → d.micro < 2 ^ 64 → rank d ≤ rank (stamp_by it now m x d)
 by_due it now m x d later after small due = grind (arith, nat_tests)
 
+-- it rises with the due
 pub by_rises : (it : Bool) (now m x y : ℕ) (d e : At) → now < x → d.time ≤ x → x ≤ y → e.time ≤ y → (d.time ≡ e.time → x ≡ y) → m < 2 ^ 63 → d.micro < 2 ^ 64 → e.micro < 2 ^ 64 → rank d ≤ rank e →
     rank (stamp_by it now m x d) ≤ rank (stamp_by it now m y e)
 by_rises it now m x y d e later after le after_e same small due due_e rises = grind (arith, nat_tests)
 
--- what is known of the least time of an item
+-- what is known of that time
 pub record IsTime (f : Fed) (d : At) (x : ℕ) : Type 0 where
   pub later : f.last.time < x
   pub after : d.time ≤ x
@@ -62,6 +62,7 @@ time_is f d fed waits due =
       small = omega (arith, fed.micro, fed.count);
     }
 
+-- it rises with the due's
 pub time_rises : (f : Fed) (d e : At) → IsFed f → f.phase ≡ Waiting → e.time ≤ max_time → d.time ≤ e.time → time_of f d ≤ time_of f e
 unfolding time_of
 time_rises f d e fed waits due le =
@@ -69,19 +70,21 @@ time_rises f d e fed waits due le =
     let terms : IsTerms f.settings = fed.settings in
     up_rises f.settings (max d.time (f.last.time + delta_of f.settings)) (max e.time (f.last.time + delta_of f.settings)) (omega arith) (omega arith)
 
+-- an item's stamp is above the last grant
 pub item_above : (f : Fed) (d : At) → IsFed f → f.phase ≡ Waiting → IsDue d → rank f.last < rank (item_stamp f d)
 unfolding time_of
 item_above f d fed waits due =
     let t = time_is f d fed waits (omega arith) in
-    let at = by_above (iterates f.request.mode) f.last.time f.last.micro (time_of f d) d t.later t.after (omega arith) (omega arith) in
-    at
+    by_above (iterates f.request.mode) f.last.time f.last.micro (time_of f d) d t.later t.after (omega arith) (omega arith)
 
+-- it isn't below the due
 pub due_below : (f : Fed) (d : At) → IsFed f → f.phase ≡ Waiting → IsDue d → rank d ≤ rank (item_stamp f d)
 unfolding time_of
 due_below f d fed waits due =
     let t = time_is f d fed waits (omega arith) in
     by_due (iterates f.request.mode) f.last.time f.last.micro (time_of f d) d t.later t.after (omega arith) (omega arith)
 
+-- it rises with the due
 pub item_rises : (f : Fed) (d e : At) → IsFed f → f.phase ≡ Waiting → IsDue d → IsDue e → rank d ≤ rank e → rank (item_stamp f d) ≤ rank (item_stamp f e)
 unfolding time_of
 item_rises f d e fed waits due due_e rises =
@@ -92,11 +95,11 @@ item_rises f d e fed waits due due_e rises =
     (λ same. (let l1 = time_rises f d e fed waits (omega arith) (omega arith) in
     let l2 = time_rises f e d fed waits (omega arith) (omega arith) in omega arith)) (omega arith) (omega arith) (omega arith) rises
 
--- a grant of a waiting federate iterates where its time stays
+-- a grant of a waiting federate iterates where the time stays
 pub iterating_waits : (f : Fed) (s : At) → f.phase ≡ Waiting → is_iterating f s ≡ (s.time == f.last.time)
 iterating_waits f s waits = rw waits refl
 
--- what a step gives, over numbers
+-- s lies above the last grant, within bounds
 pub record Goes (f : Fed) (s : At) : Type 0 where
   pub rises : rank f.last < rank s
   pub time : (s.time < horizon) ⊎ (s.time ≡ max_time)
@@ -104,6 +107,7 @@ pub record Goes (f : Fed) (s : At) : Type 0 where
   pub micro_new : f.last.time < s.time → s.micro ≤ 2 ^ 62 + 1
   pub same : s.time ≡ f.last.time → f.count < f.settings.max_iterations
 
+-- so do an item's stamp and that of a request
 pub item_goes : (f : Fed) (d : At) → IsFed f → f.phase ≡ Waiting → IsDue d → Goes f (item_stamp f d)
 unfolding time_of
 item_goes f d fed waits due =
@@ -153,11 +157,12 @@ request_goes f fed waits =
     by_mode Next may later lawful low small = record { rises = omega arith; time = elim lawful [ inl e ↦ inr e | inr l ↦ inl l ]; micro = omega arith; micro_new = λ h. omega arith; same = λ e. absurd (omega arith) }
     by_mode IfNeeded may later lawful low small = record { rises = omega arith; time = elim lawful [ inl e ↦ inr e | inr l ↦ inl l ]; micro = omega arith; micro_new = λ h. omega arith; same = λ e. absurd (omega arith) }
 
--- on its grid, or an iteration that was asked for
+-- s lies on the grid, or is an iteration that was asked for
 pub record Steps (f : Fed) (s : At) : Type 0 where
   pub next : (s.time ≡ f.last.time → ⊥) → (is_lawful f.settings s.time ≡ true) × (f.last.time + delta_of f.settings ≤ s.time)
   pub same : s.time ≡ f.last.time → iterates f.request.mode ≡ true
 
+-- so do an item's stamp and that of a request
 pub item_steps : (f : Fed) (d : At) → IsFed f → f.phase ≡ Waiting → IsDue d → Steps f (item_stamp f d)
 unfolding time_of
 item_steps f d fed waits due =

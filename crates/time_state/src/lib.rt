@@ -5,6 +5,8 @@ use iteration_rules::Kind;
 
 mod fed_time;
 mod laws;
+#[cfg(test)]
+mod tests;
 
 pub use fed_time::FedTime;
 pub use laws::fed_laws;
