@@ -1,16 +1,15 @@
 -- What an accepted step tells of the federate that takes it.
-use Rattle.std.proofs.Common.{◌≡◌, ◌≢◌, ◌⊎◌, inl, inr, ℕ, ◌^◌, ◌<◌, Bool, true, false, arith, refl, sym, ◌∙◌, ap, List, length, Option, Some, None}
-use Rattle.std.specs.Prelude.{nat_lt, nat_le, ◌==◌, ◌||◌, if◌then◌else◌, option_map}
+use Rattle.std.proofs.Common.{◌≡◌, ◌⊎◌, inl, inr, ℕ, ◌^◌, ◌<◌, Bool, true, false, arith, refl, sym, ◌∙◌, ap, List, length, Option, Some, None}
+use Rattle.std.specs.Prelude.{nat_lt, if◌then◌else◌, option_map}
 use Rattle.std.specs.Option.{option_or}
-use Rattle.std.proofs.lemmas.Bool.{ltb-true}
+use Rattle.std.proofs.lemmas.Bool.{ltb-true, lt-ltb}
 use Rattle.std.proofs.lemmas.Bool.Decides.{nat_tests}
-use Rattle.helics_time.specs.Time.{max_time, horizon}
+use Rattle.helics_time.specs.Time.{horizon}
 use Rattle.helics_time.specs.Stamp.{At}
 use Rattle.time_state.specs.Fed.{Fed, IsFed, event_of, is_asking, is_live}
 use Rattle.time_state.specs.declared.Phase.{Phase}
 use Rattle.time_state.specs.declared.Phase.TheVariants.{Initializing, Running, Waiting, Ended}
 use Rattle.machine_laws.specs.declared.refusal.CallRefusal.{CallRefusal}
-use Rattle.machine_laws.specs.declared.refusal.CallRefusal.TheVariants.{PastHorizon, MicroLimit, CountLimit}
 use Rattle.machine_laws.specs.declared.refusal.Unlawful.{Unlawful}
 use Rattle.machine_laws.specs.declared.refusal.Unlawful.TheVariants.{StrangeNumber, Refused, NotAsked}
 use Rattle.machine_laws.specs.Plan.{Plan, Call}
@@ -22,7 +21,7 @@ pub none_mapped : {A B : Type 0} (g : A → B) (o : Option A) → option_map g o
 none_mapped g None none = refl
 none_mapped g (Some x) none = cc
 
--- the federate is the plan's, and its refusal is the step's
+-- a step that isn't refused is of a federate of the plan
 pub known : (s : State) (f : ℕ) (r : Option Unlawful) → if_known s f r ≡ None → (f < length s.members) × (r ≡ None)
 known s f r lawful = by_test (nat_lt f (length s.members)) refl lawful
   where
@@ -30,23 +29,20 @@ known s f r lawful = by_test (nat_lt f (length s.members)) refl lawful
     by_test true is none = (ltb-true f (length s.members) is, none)
     by_test false is none = cc
 
--- the same of a call, which has no refusal
+-- and so is a call
 pub accepted : (s : State) (f : ℕ) (r : Option CallRefusal) → if_refused s f r ≡ None → (f < length s.members) × (r ≡ None)
 accepted s f r lawful = let k = known s f (option_map Refused r) lawful in (k.0, none_mapped Refused r k.1)
 
--- so the refusal of a federate of the plan is the step's
+-- the number of a federate of the plan refuses nothing
 pub known_is : (s : State) (f : ℕ) (r : Option Unlawful) → f < length s.members → if_known s f r ≡ r
-known_is s f r within = ap (λ (b : Bool). if b then r else Some StrangeNumber) (test f (length s.members) within)
-  where
-    test : (a b : ℕ) → a < b → nat_lt a b ≡ true
-    test a b less = grind (arith, nat_tests)
+known_is s f r within = ap (λ (b : Bool). if b then r else Some StrangeNumber) (lt-ltb f (length s.members) within)
 
--- one that may fail or die lives
+-- a federate that may fail or die lives
 pub lives : (q : Phase) → end_refusal q ≡ None → is_live q ≡ true
 lives (Ended c) none = cc
 lives phase none = refl
 
--- an accepted call of a kind that has its place in two phases
+-- an accepted call of a kind that has its place in these two phases is in one of them
 pub calling : (q : Phase) (more : Option CallRefusal) → by_phase q more ≡ None → ((q ≡ Initializing) ⊎ (q ≡ Running)) × (more ≡ None)
 calling Initializing more none = (inl refl, none)
 calling Running more none = (inr refl, none)
@@ -62,19 +58,13 @@ pub record MaySend (fed : Fed) : Type 0 where
 pub may_send : (p : Plan) (f : ℕ) (m : Member) (call : Call) → IsFed m.time → make_refusal p f m call ≡ None → MaySend m.time
 may_send p f m call fed none =
     let c = calling m.time.phase (option_or (p.objects f call) (limit_refusal m)) none in
-    let l = limits m.time.last.time m.time.last.micro m.seq (second (p.objects f call) (limit_refusal m) c.1) in
-    record { phase = c.0; time = below m.time.last.time fed.time l.0; micro = l.1 }
+    let l = second (p.objects f call) (limit_refusal m) c.1 in
+    let lawful = fed.time in
+    record { phase = c.0; time = grind (arith, nat_tests); micro = grind (arith, nat_tests) }
   where
     second : (a b : Option CallRefusal) → option_or a b ≡ None → b ≡ None
     second None b none = none
     second (Some x) b none = cc
-
-    limits : (t m q : ℕ) → (if t == max_time then Some PastHorizon else (if nat_le (2 ^ 62) m then Some MicroLimit else (if nat_le (2 ^ 32) q then Some CountLimit else None))) ≡ None →
-        (t ≢ max_time) × (m < 2 ^ 62)
-    limits t m q none = (λ same. grind (arith, nat_tests), grind (arith, nat_tests))
-
-    below : (t : ℕ) → (nat_lt t horizon || t == max_time) ≡ true → t ≢ max_time → t < horizon
-    below t lawful other = grind (arith, nat_tests)
 
 -- it doesn't wait
 pub not_waiting : (q : Phase) → (q ≡ Initializing) ⊎ (q ≡ Running) → q ≡ Waiting → ⊥
@@ -94,7 +84,7 @@ pub record MayGrant (p : Plan) (s : State) (f : ℕ) : Type 0 where
   pub asks : is_asking (member_at s f).time.phase ≡ true
   pub none : holder_in p s (cut_in s f) (p.ancestors f) ≡ None
 
--- a grant that is not refused tells it
+-- a grant that isn't refused tells it
 pub may_grant : (p : Plan) (s : State) (f : ℕ) → refusal_of p s (grant f) ≡ None → MayGrant p s f
 may_grant p s f lawful =
     let k = known s f _ lawful in
@@ -105,7 +95,7 @@ may_grant p s f lawful =
     by_test true r none = (refl, none)
     by_test false r none = cc
 
--- and one that tells it is not refused
+-- and one of which it holds isn't refused
 pub grant_lawful : (p : Plan) (s : State) (f : ℕ) → MayGrant p s f → refusal_of p s (grant f) ≡ None
 grant_lawful p s f may =
     known_is s f _ may.within

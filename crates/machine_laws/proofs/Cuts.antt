@@ -1,8 +1,7 @@
--- Events and cuts of a state that keeps the laws, and what a grant's cut and the ancestors' firsts have to do with one another.
+-- Events and cuts of a state that keeps the laws: a grant's cut is below `first` of each ancestor.
 use Rattle.std.proofs.Common.{◌≡◌, inl, inr, ℕ, ◌<◌, ◌≤◌, Bool, true, false, arith, refl, sym, ◌∙◌, ap, List, [], ◌∷◌, Option, Some, None}
-use Rattle.std.specs.Prelude.{nat_lt, if◌then◌else◌}
-use Rattle.std.proofs.lemmas.Bool.{ltb-true}
-use Rattle.std.proofs.lemmas.Bool.Decides.{nat_tests}
+use Rattle.std.specs.Prelude.{if◌then◌else◌}
+use Rattle.std.proofs.lemmas.Bool.{ltb-true, lt-ltb}
 use Rattle.helics_time.specs.Stamp.{At, IsStamp, IsDue, before, rank}
 use Rattle.helics_time.proofs.Ranks.{order_of, next_more}
 use Rattle.hel_lists.specs.Members.{IsIn, Each}
@@ -30,11 +29,11 @@ dues_of p s a keeps = dues_due s.items a keeps.dues
 pub event_in_is : (p : Plan) (s : State) (a : ℕ) → Keeps p s → IsStamp (event_in s a)
 event_in_is p s a keeps = event_stamp (member_at s a).time (dues_to s.items a) (keeps.feds a) (dues_of p s a keeps)
 
--- a federate that is granted keeps its facts
+-- a federate that was granted keeps its facts
 pub granted_is : (p : Plan) (s : State) (f : ℕ) → Keeps p s → MayGrant p s f → IsFed (granted (member_at s f).time (dues_to s.items f))
 granted_is p s f keeps may = grant_stands (member_at s f).time (dues_to s.items f) (keeps.feds f) (dues_of p s f keeps) may.asks
 
--- the cut of a lawful grant is that of a federate that has not finished
+-- so the cut of a lawful grant is a stamp of a federate that hasn't finished
 pub cut_is : (p : Plan) (s : State) (f : ℕ) → Keeps p s → MayGrant p s f → IsEvent (cut_in s f)
 cut_is p s f keeps may = (granted_is p s f keeps may).cut_is
 
@@ -51,13 +50,13 @@ first_above p a s plan is =
     let micro = is.micro in
     omega (arith, above, next, time, micro)
 
--- what is below `first` of an event is below `first` of the event over no item
+-- `first` of an event is at most `first` of the event over no item
 pub first_none : (p : Plan) (s : State) (a : ℕ) → IsPlan p → Keeps p s → rank (p.first a (event_in s a)) ≤ rank (p.first a (event_of (member_at s a).time []))
 first_none p s a plan keeps =
     plan.rises a (event_in s a) (event_of (member_at s a).time []) (event_in_is p s a keeps) (event_stamp (member_at s a).time [] (keeps.feds a) (λ d none. absurd none))
     (at_most_none (member_at s a).time (dues_to s.items a) (keeps.feds a) (dues_of p s a keeps))
 
--- and below `first` of the stamp of each undelivered item that counts
+-- and at most `first` of the stamp of each undelivered item that counts
 pub first_each : (p : Plan) (s : State) (i : Parcel) → IsPlan p → Keeps p s → Counts (member_at s i.target).time → IsIn i s.items →
     rank (p.first i.target (event_in s i.target)) ≤ rank (p.first i.target (item_stamp (member_at s i.target).time i.due))
 first_each p s i plan keeps counts among =
@@ -100,10 +99,7 @@ pub below_lawful : (p : Plan) (s : State) (f : ℕ) → IsPlan p → Keeps p s �
     holder_in p s (cut_in s f) (p.ancestors f) ≡ None
 below_lawful p s f plan keeps is below = holds_none p s cut (p.ancestors f) (λ a anc.
     (let first : At = p.first a (event_in s a) in
-    order_of cut first (event_is_stamp cut is) (plan.stamps a (event_in s a) (event_in_is p s a keeps)) ∙ test (rank cut) (rank first) (below a anc)))
+    order_of cut first (event_is_stamp cut is) (plan.stamps a (event_in s a) (event_in_is p s a keeps)) ∙ lt-ltb (rank cut) (rank first) (below a anc)))
   where
     cut : At
     cut = cut_in s f
-
-    test : (a b : ℕ) → a < b → nat_lt a b ≡ true
-    test a b less = grind (arith, nat_tests)

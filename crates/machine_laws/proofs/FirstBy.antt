@@ -1,6 +1,5 @@
 -- What a sender's output delay tells of its later items.
-use Rattle.std.proofs.Common.{◌≢◌, ℕ, ◌+◌, ◌<◌, ◌≤◌, ◌^◌, arith}
-use Rattle.std.specs.Prelude.{nat_lt, ◌==◌, if◌then◌else◌}
+use Rattle.std.proofs.Common.{◌≢◌, ℕ, ◌<◌, ◌≤◌, ◌^◌, arith}
 use Rattle.std.proofs.lemmas.Bool.Decides.{nat_tests}
 use Rattle.helics_time.specs.Time.{horizon}
 use Rattle.helics_time.specs.Stamp.{At, IsStamp, next_of, rank}
@@ -22,11 +21,7 @@ above delay s is = grind (arith, nat_tests)
 
 -- no item to another is due before it
 sent : (delay a : ℕ) (leg : Leg) (fed : Fed) → delay ≤ leg.delay → leg.delay < 2 ^ 61 → leg.target ≢ a → fed.last.time < horizon → fed.last.micro < 2 ^ 62 → rank (first_by delay fed.last) ≤ rank (due_of fed a leg)
-sent delay a leg fed holds short other low small = plain delay leg.delay leg.target a fed.last.time fed.last.micro holds short other low small
-  where
-    plain : (o d t a time micro : ℕ) → o ≤ d → d < 2 ^ 61 → t ≢ a → time < horizon → micro < 2 ^ 62 →
-        rank (first_by o (record { time = time; micro = micro })) ≤ rank (if nat_lt 0 d then record { time = time + d; micro = 0 } else (if t == a then next_of fed.last_cut else next_of (record { time = time; micro = micro })))
-    plain o d t a time micro holds short other low small = grind (arith, nat_tests)
+sent delay a leg fed holds short other low small = grind (arith, nat_tests)
 
 pub first_laws : FirstLaws
 first_laws = record { stamps = stamps; rises = rises; above = above; sent = sent }

@@ -1,8 +1,7 @@
 -- Grants rise on their grid, and the logs tell of them.
 use Rattle.std.proofs.Common.{◌≡◌, ◌⊎◌, inl, inr, ℕ, zero, suc, ◌+◌, ◌<◌, ◌≤◌, Bool, true, false, arith, refl, sym, ◌∙◌, ap, subst, List, [], ◌∷◌, ◌++◌, get_or}
 use Rattle.std.specs.Prelude.{◌==◌, if◌then◌else◌, map}
-use Rattle.std.proofs.lemmas.Bool.{eqb-true, false≢true}
-use Rattle.std.proofs.lemmas.Bool.Decides.{nat_tests}
+use Rattle.std.proofs.lemmas.Bool.{eqb-true, eq-eqb, false≢true}
 use Rattle.helics_time.specs.Stamp.{At, IsDue, rank}
 use Rattle.helics_time.specs.Settings.{Terms}
 use Rattle.hel_lists.specs.Members.{IsIn, Each}
@@ -27,18 +26,15 @@ use Rattle.machine_laws.proofs.Members.{by_member}
 use Rattle.machine_laws.proofs.News.{sender_of}
 use Rattle.machine_laws.proofs.Onward.{event_above}
 
--- the kind that a grant has by whether two times are the same
+-- a grant that is a NextStep has another time than the grant before
 kind_next : (a b : ℕ) → (if a == b then Iterating else NextStep) ≡ NextStep → a ≡ b → ⊥
-kind_next a b kind same = clash (a == b) kind (test a b same)
+kind_next a b kind same = clash (a == b) kind (eq-eqb a b same)
   where
-    test : (a b : ℕ) → a ≡ b → (a == b) ≡ true
-    test a b same = grind (arith, nat_tests)
-
     clash : (t : Bool) → (if t then Iterating else NextStep) ≡ NextStep → t ≡ true → ⊥
     clash true kind is = cc
     clash false kind is = false≢true is
 
--- an iterating grant has the same time
+-- and one that iterates has the same
 kind_iterating : (a b : ℕ) → (if a == b then Iterating else NextStep) ≡ Iterating → a ≡ b
 kind_iterating a b kind = eqb-true a b (holds (a == b) kind)
   where
@@ -96,7 +92,7 @@ grants_on_grid p s f before plan run lawful =
     let keeps = keeps_run p (opening p) before s plan (keeps_opening p plan) run in
     on_grid (member_at s f).time (dues_to s.items f) (keeps.feds f) (dues_of p s f keeps) (may_grant p s f lawful.0).asks
 
--- a log with one more entry
+-- a log with one more entry: what is in it
 in_push : {A : Type 0} (xs : List A) (y x : A) → IsIn x (xs ++ y ∷ []) → IsIn x xs ⊎ (x ≡ y)
 in_push [] y x among = elim among [ inl here ↦ inr here | inr none ↦ absurd none ]
 in_push (z ∷ xs) y x among = elim among [

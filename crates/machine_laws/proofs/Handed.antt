@@ -1,8 +1,8 @@
 -- The items to a federate, and which of them a cut hands over.
-use Rattle.std.proofs.Common.{◌≡◌, ◌≢◌, ℕ, ◌<◌, ◌≤◌, Bool, true, false, arith, sym, ◌∙◌, ap, subst, List}
-use Rattle.std.specs.Prelude.{nat_le, ◌==◌, ◌&&◌, map, not}
+use Rattle.std.proofs.Common.{◌≡◌, ◌≢◌, ℕ, ◌<◌, ◌≤◌, true, false, arith, refl, sym, ◌∙◌, ap, subst, List}
+use Rattle.std.specs.Prelude.{nat_le, map, not}
 use Rattle.std.specs.List.{filter}
-use Rattle.std.proofs.lemmas.Bool.{eqb-true}
+use Rattle.std.proofs.lemmas.Bool.{eqb-true, eq-eqb, ne_eqb, false≢true}
 use Rattle.std.proofs.lemmas.Bool.Decides.{nat_tests}
 use Rattle.helics_time.specs.Stamp.{At, IsStamp, IsDue, at_most, rank}
 use Rattle.helics_time.proofs.Ranks.{most_of}
@@ -21,10 +21,7 @@ in_dues items f d among =
 
 -- and the due of an item is one to its target
 pub dues_in : (items : List Parcel) (i : Parcel) → IsIn i items → IsIn i.due (dues_to items i.target)
-dues_in items i among = map_in (λ (j : Parcel). j.due) (filter (is_to i.target) items) i (filter_in (is_to i.target) items i among (same i.target))
-  where
-    same : (n : ℕ) → (n == n) ≡ true
-    same n = grind (arith, nat_tests)
+dues_in items i among = map_in (λ (j : Parcel). j.due) (filter (is_to i.target) items) i (filter_in (is_to i.target) items i among (eq-eqb i.target i.target refl))
 
 -- where each item of one list is in another, so is each due
 pub dues_within : (xs items : List Parcel) (f : ℕ) → Each (λ i. IsIn i items) xs → Each (λ d. IsIn d (dues_to items f)) (dues_to xs f)
@@ -36,7 +33,7 @@ dues_within xs items f within d among =
 pub dues_due : (items : List Parcel) (f : ℕ) → Each (λ i. IsDue i.due) items → Each IsDue (dues_to items f)
 dues_due items f due d among = let m = in_dues items f d among in subst IsDue (sym m.3) (due m.0 m.1)
 
--- a stamp of a federate that has not finished is a stamp
+-- a stamp of a federate that hasn't finished is a stamp
 pub event_is_stamp : (s : At) → IsEvent s → IsStamp s
 event_is_stamp s is = (omega (arith, is.time), omega (arith, is.micro))
 
@@ -46,45 +43,27 @@ reaches due cut is_due is_cut = most_of due cut (omega (arith, is_due.time), ome
 
 -- what is due by the cut is handed over
 pub handed_reached : (f : ℕ) (cut : At) (i : Parcel) → IsDue i.due → IsEvent cut → i.target ≡ f → rank i.due ≤ rank cut → is_handed f cut i ≡ true
-handed_reached f cut i due is to least = plain i.target f (at_most i.due cut) (rank i.due) (rank cut) (reaches i.due cut due is) to least
-  where
-    plain : (t f : ℕ) (b : Bool) (d c : ℕ) → b ≡ nat_le d c → t ≡ f → d ≤ c → ((t == f) && b) ≡ true
-    plain t f b d c test to least = grind (arith, nat_tests)
+handed_reached f cut i due is to least = rw (reaches i.due cut due is) (grind (arith, nat_tests))
 
 -- what is due above the cut isn't handed over
 pub not_reached : (f : ℕ) (cut : At) (i : Parcel) → IsDue i.due → IsEvent cut → rank cut < rank i.due → is_handed f cut i ≡ false
-not_reached f cut i due is above = plain (i.target == f) (at_most i.due cut) (rank i.due) (rank cut) (reaches i.due cut due is) above
-  where
-    plain : (t b : Bool) (d c : ℕ) → b ≡ nat_le d c → c < d → (t && b) ≡ false
-    plain t b d c test above = grind (arith, nat_tests)
+not_reached f cut i due is above = rw (reaches i.due cut due is) (grind (arith, nat_tests))
 
 -- nor is an item to another
 pub not_theirs : (f : ℕ) (cut : At) (i : Parcel) → i.target ≢ f → is_handed f cut i ≡ false
-not_theirs f cut i other = plain i.target f (at_most i.due cut) other
-  where
-    plain : (t f : ℕ) (b : Bool) → t ≢ f → ((t == f) && b) ≡ false
-    plain t f b other = grind (arith, nat_tests)
+not_theirs f cut i other = rw (ne_eqb i.target f other) refl
 
 -- what is handed over is an item to f
 pub handed_target : (f : ℕ) (cut : At) (i : Parcel) → is_handed f cut i ≡ true → i.target ≡ f
-handed_target f cut i handed = plain i.target f (at_most i.due cut) handed
-  where
-    plain : (t f : ℕ) (b : Bool) → ((t == f) && b) ≡ true → t ≡ f
-    plain t f b handed = grind (arith, nat_tests)
+handed_target f cut i handed = grind (arith, nat_tests)
 
 -- what is left for f is due above the cut
 pub left_above : (f : ℕ) (cut : At) (i : Parcel) → IsDue i.due → IsEvent cut → i.target ≡ f → is_left f cut i ≡ true → rank cut < rank i.due
-left_above f cut i due is to left = plain i.target f (at_most i.due cut) (rank i.due) (rank cut) (reaches i.due cut due is) to left
-  where
-    plain : (t f : ℕ) (b : Bool) (d c : ℕ) → b ≡ nat_le d c → t ≡ f → not ((t == f) && b) ≡ true → c < d
-    plain t f b d c test to left = grind (arith, nat_tests)
+left_above f cut i due is to left = grind (arith, nat_tests)
 
 -- what is left and what is handed over are apart
 pub left_or_handed : (f : ℕ) (cut : At) (i : Parcel) → is_handed f cut i ≡ true → is_left f cut i ≡ true → ⊥
-left_or_handed f cut i handed left = plain (is_handed f cut i) handed left
-  where
-    plain : (b : Bool) → b ≡ true → not b ≡ true → ⊥
-    plain b handed left = grind (arith, nat_tests)
+left_or_handed f cut i handed left = false≢true (sym (ap not handed) ∙ left)
 
 -- a grant of f leaves the dues to another
 pub dues_left : (items : List Parcel) (f g : ℕ) (cut : At) → f ≢ g → dues_to (filter (is_left f cut) items) g ≡ dues_to items g

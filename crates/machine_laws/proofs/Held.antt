@@ -1,8 +1,8 @@
 -- What the logs hold.
-use Rattle.std.proofs.Common.{◌≡◌, inl, inr, ℕ, zero, suc, Bool, true, false, arith, refl, sym, ◌∙◌, ap, List, [], ◌∷◌, ◌++◌, get_or}
-use Rattle.std.specs.Prelude.{◌==◌, map}
+use Rattle.std.proofs.Common.{◌≡◌, inl, inr, ℕ, zero, suc, Bool, true, false, refl, sym, ◌∙◌, ap, List, [], ◌∷◌, ◌++◌, get_or}
+use Rattle.std.specs.Prelude.{map}
 use Rattle.std.specs.List.{filter}
-use Rattle.std.proofs.lemmas.Bool.Decides.{nat_tests}
+use Rattle.std.proofs.lemmas.Bool.{eq-eqb, ne_eqb}
 use Rattle.std.proofs.lemmas.List.{append-nil, append_assoc}
 use Rattle.std.proofs.lemmas.List.Elements.{filter-append}
 use Rattle.helics_time.specs.Settings.{Terms}
@@ -39,18 +39,12 @@ filter_none q (x ∷ xs) each = rw (each x (inl refl)) (filter_none q xs (λ i a
 -- what a grant of g hands over is all for g
 handed_to_it : (s : State) (f g : ℕ) → f ≡ g → filter (is_to f) (handed_in s g) ≡ handed_in s g
 handed_to_it s f g same =
-    filter_all (is_to f) (handed_in s g) (λ i among. test i.target f (handed_target g (cut_in s g) i (in_filter (is_handed g (cut_in s g)) s.items i among).1 ∙ sym same))
-  where
-    test : (a b : ℕ) → a ≡ b → (a == b) ≡ true
-    test a b e = grind (arith, nat_tests)
+    filter_all (is_to f) (handed_in s g) (λ i among. eq-eqb i.target f (handed_target g (cut_in s g) i (in_filter (is_handed g (cut_in s g)) s.items i among).1 ∙ sym same))
 
 -- and nothing for another
 handed_to_others : (s : State) (f g : ℕ) → (f ≡ g → ⊥) → filter (is_to f) (handed_in s g) ≡ []
 handed_to_others s f g other =
-    filter_none (is_to f) (handed_in s g) (λ i among. test i.target f (λ e. other (sym e ∙ handed_target g (cut_in s g) i (in_filter (is_handed g (cut_in s g)) s.items i among).1)))
-  where
-    test : (a b : ℕ) → (a ≡ b → ⊥) → (a == b) ≡ false
-    test a b differs = grind (arith, nat_tests)
+    filter_none (is_to f) (handed_in s g) (λ i among. ne_eqb i.target f (λ e. other (sym e ∙ handed_target g (cut_in s g) i (in_filter (is_handed g (cut_in s g)) s.items i among).1)))
 
 -- one step adds to a log what it hands over to its federate
 holds_step : (p : Plan) (s : State) (step : Step) (f : ℕ) → Keeps p s → IsLawful p s step →

@@ -47,7 +47,7 @@ keeps_calm p s b ms plan keeps calm = record {
     cut_same : (f : ℕ) → rank (get_or ms f blank_member).time.last_cut ≡ rank (member_at s f).time.last_cut
     cut_same f = ap rank (calm f).same.cut
 
--- one member goes on to a later cut, and items are taken out: those left for it are above the cut, and its ancestors' firsts
+-- one member goes on to a cut below `first` of its ancestors, and items are taken out: those left for it are due above the cut
 keeps_taken : (p : Plan) (s : State) (f : ℕ) (n : Member) (q : Parcel → Bool) → IsPlan p → Keeps p s → f < length s.members →
     IsFed n.time → n.seq ≡ (member_at s f).seq → ((dues : List At) → rank (event_in s f) ≤ rank (event_of n.time dues)) →
     ((i : Parcel) → IsIn i s.items → i.target ≡ f → q i ≡ true → rank n.time.last_cut < rank i.due) →
@@ -96,7 +96,7 @@ keeps_taken p s f n q plan keeps within fed_new seq_new event_new left safe = re
         (λ same. (let e : rank (event_in s a) ≡ rank (event_in s f) = ap (λ (k : ℕ). rank (event_in s k)) same in let new = event_new (dues_to t.items a) in omega (arith, e, new)))
         (λ other. event_fewer (member_at s a).time (dues_to s.items a) (dues_to t.items a) (keeps.feds a) (dues_of p s a keeps) (dues_within t.items s.items a (λ i among. (was i among).0)))
 
--- a grant goes on to its cut, which lets through all that is due by it
+-- a grant goes on to its cut, and takes out all that is due by it
 keeps_grant : (p : Plan) (s : State) (f : ℕ) → IsPlan p → Keeps p s → MayGrant p s f → Keeps p (after p s (grant f))
 keeps_grant p s f plan keeps may =
     keeps_taken p s f _ (is_left f (cut_in s f)) plan keeps may.within

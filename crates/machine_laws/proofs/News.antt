@@ -54,6 +54,7 @@ due_is fed f leg is may short = let near = cut_near fed is may in record { time 
 due_self : (fed : Fed) (f : ℕ) (leg : Leg) → IsFed fed → MaySend fed → leg.target ≡ f → rank fed.last_cut < rank (due_of fed f leg)
 due_self fed f leg is may self = let near = cut_near fed is may in grind (arith, nat_tests)
 
+-- so the due of an item is one
 pub new_due : (p : Plan) (s : State) (f : ℕ) (call : Call) (i : Parcel) → IsPlan p → Keeps p s → Sender p s f → New p s f call i → IsDue i.due
 new_due p s f call i plan keeps sender new =
     subst (λ (j : Parcel). IsDue j.due) (sym new.is)
@@ -78,7 +79,7 @@ sent_after p s f call i plan sender new other =
     let due : rank i.due ≡ rank (due_of (member_at s f).time f leg) = ap (λ (j : Parcel). rank j.due) new.is in
     omega (arith, sent, own, due)
 
--- no item is due by the last cut of its target
+-- each item is due above the last cut of its target
 pub new_late : (p : Plan) (s : State) (f : ℕ) (call : Call) (i : Parcel) → IsPlan p → Keeps p s → Sender p s f → New p s f call i → rank (member_at s i.target).time.last_cut < rank i.due
 new_late p s f call i plan keeps sender new = elim (cases_eq i.target f) [
   | inl self ↦
@@ -97,7 +98,7 @@ new_late p s f call i plan keeps sender new = elim (cases_eq i.target f) [
   ]
 ]
 
--- the sender's `first` is above its own last cut
+-- the sender's `first` isn't below its own last cut
 first_own : (p : Plan) (s : State) (f : ℕ) → IsPlan p → Keeps p s → Sender p s f → rank (member_at s f).time.last_cut ≤ rank (p.first f (event_in s f))
 first_own p s f plan keeps sender =
     let own : At = (member_at s f).time.last in
@@ -110,7 +111,7 @@ first_own p s f plan keeps sender =
     let event : rank (p.first f (event_in s f)) ≡ rank (p.first f own) = ap (λ (y : At). rank (p.first f y)) sender.own in
     omega (arith, time, micro, above, next, high, event)
 
--- an item to an ancestor of x, to be handed over at a grant, lets that ancestor send nothing that is due by the last cut of x
+-- at the stamp of an item, an ancestor of x that waits for it can send nothing that is due by the last cut of x
 pub new_safe : (p : Plan) (s : State) (f : ℕ) (call : Call) (i : Parcel) (x : ℕ) → IsPlan p → Keeps p s → Sender p s f → New p s f call i → IsIn i.target (p.ancestors x) →
     (member_at s i.target).time.phase ≡ Waiting → rank (member_at s x).time.last_cut < rank (p.first i.target (item_stamp (member_at s i.target).time i.due))
 new_safe p s f call i x plan keeps sender new anc waits =
