@@ -116,6 +116,7 @@ call_grant p s f g a plan keeps differs calls lawful second = record {
         let after_first = sent i among other in
         omega (arith, before, after_first)
 
+    -- so the grant hands nothing of it over
     not_handed : (i : Parcel) → IsIn i news → is_handed g cut i ≡ false
     not_handed i among = elim (cases_eq i.target g) [
       | inl here ↦ not_reached g cut i (due_of_item i (new_in i among)) (cut_is p s g keeps may) (above_new i among (λ same. differs (sym same ∙ here)) (inl here))
@@ -167,6 +168,7 @@ call_grant p s f g a plan keeps differs calls lawful second = record {
     own_is : IsStamp (event_of m.time (dues_to xs f))
     own_is = subst (λ (x : Member). IsStamp (event_of x.time (dues_to xs f))) (same_member s f f m xs refl accepts.0) (event_in_is p t f keeps_t)
 
+    -- so `first` of the caller stays above the cut of g
     above_own : IsIn f (p.ancestors g) → rank cut < rank (p.first f (event_of m.time (dues_to xs f)))
     above_own anc =
         let before = cut_below p s g f plan keeps may anc in
@@ -175,6 +177,7 @@ call_grant p s f g a plan keeps differs calls lawful second = record {
         let more = plan.rises f (event_in s f) (event_of m.time (dues_to xs f)) (event_in_is p s f keeps) own_is (omega (arith, rises, own)) in
         omega (arith, before, more)
 
+    -- and so does `first` of another ancestor at the stamp of each item to it
     each_above : (i : Parcel) → IsIn i xs → Counts (member_at s i.target).time → i.target ≢ f → IsIn i.target (p.ancestors g) → rank cut < rank (p.first i.target (item_stamp (member_at s i.target).time i.due))
     each_above i among counts other anc = elim (split i among) [
       | inl is_new ↦
@@ -188,7 +191,7 @@ call_grant p s f g a plan keeps differs calls lawful second = record {
           omega (arith, before, rise))
     ]
 
-    -- `first` of each other ancestor stays above the cut
+    -- and at its event
     above_other : (x : ℕ) → IsIn x (p.ancestors g) → x ≢ f → rank cut < rank (p.first x (event_of (member_at s x).time (dues_to xs x)))
     above_other x anc other =
         let before = cut_below p s g x plan keeps may anc in
