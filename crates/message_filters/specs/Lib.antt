@@ -1,0 +1,4 @@
+pub mod Chain
+pub mod Chance
+pub mod Filter
+pub mod Limits

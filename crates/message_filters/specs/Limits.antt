@@ -1,0 +1,14 @@
+-- The bounds of filters and chains.
+use Rattle.std.specs.Prelude.{ℕ, ◌^◌}
+
+-- the greatest delay of a filter, in nanoseconds
+abbrev pub longest_delay : ℕ
+longest_delay = 2 ^ 56
+
+-- the parts of a whole
+abbrev pub million : ℕ
+million = 1000000
+
+-- the most filters of a chain
+abbrev pub most_filters : ℕ
+most_filters = 8
