@@ -11,7 +11,7 @@ use Rattle.due_queue.proofs.Order.{in_insert_all, insert_all_old, insert_all_new
 use Rattle.time_state.specs.Fed.{IsEvent, event_of, item_stamp, is_asking}
 use Rattle.time_state.specs.Laws.{Counts}
 use Rattle.time_state.proofs.Events.{at_most_none, at_most_each, greatest, event_by}
-use Rattle.time_state.proofs.More.{event_same}
+use Rattle.time_state.proofs.Least.{event_same}
 use Rattle.time_state.proofs.Stamps.{due_below}
 use Rattle.machine_laws.specs.Plan.{Plan, IsPlan}
 use Rattle.machine_laws.specs.Machine.{Member, State, Step, member_at, dues_to, event_in, cut_in, is_handed, is_left, refusal_of, with_member, IsLawful, after}

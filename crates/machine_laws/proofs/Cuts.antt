@@ -9,9 +9,9 @@ use Rattle.time_state.specs.Fed.{Fed, IsFed, IsEvent, event_of, granted, item_st
 use Rattle.time_state.specs.Laws.{Counts}
 use Rattle.time_state.specs.declared.Phase.TheVariants.{Waiting}
 use Rattle.time_state.proofs.Events.{at_most_none, at_most_each}
-use Rattle.time_state.proofs.More.{event_stamp}
+use Rattle.time_state.proofs.Grants.{grant_stands}
+use Rattle.time_state.proofs.Ranges.{event_stamp, goes_event}
 use Rattle.time_state.proofs.Stamps.{item_goes}
-use Rattle.time_state.proofs.Turns.{goes_event, grant_stands}
 use Rattle.machine_laws.specs.declared.refusal.Unlawful.{Unlawful}
 use Rattle.machine_laws.specs.declared.refusal.Unlawful.TheVariants.{Early}
 use Rattle.due_queue.specs.Item.{Parcel}

@@ -11,8 +11,8 @@ use Rattle.time_state.specs.Fed.{Fed, IsFed, zero_stamp, event_of, is_asking, is
 use Rattle.time_state.specs.declared.Phase.{Phase}
 use Rattle.time_state.specs.declared.Phase.TheVariants.{Entering, Waiting}
 use Rattle.time_state.proofs.Events.{event_waiting}
+use Rattle.time_state.proofs.Ranges.{event_goes, event_steps}
 use Rattle.time_state.proofs.Stamps.{iterating_waits}
-use Rattle.time_state.proofs.Turns.{event_goes, event_steps}
 use Rattle.machine_laws.specs.declared.logs.LogEntry.{LogEntry}
 use Rattle.machine_laws.specs.Plan.{Plan, IsPlan}
 use Rattle.machine_laws.specs.Machine.{Member, State, Step, member_at, blank_member, default_terms, new_member, opening, dues_to, granted_member, IsLawful, after, IsRun}

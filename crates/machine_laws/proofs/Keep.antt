@@ -12,7 +12,8 @@ use Rattle.due_queue.proofs.Order.{in_insert_all, filter_ordered, insert_all_ord
 use Rattle.time_state.specs.Fed.{Fed, IsFed, event_of, item_stamp}
 use Rattle.time_state.specs.Laws.{Counts}
 use Rattle.time_state.proofs.Events.{event_by}
-use Rattle.time_state.proofs.More.{event_stamp, event_fewer}
+use Rattle.time_state.proofs.Least.{event_fewer}
+use Rattle.time_state.proofs.Ranges.{event_stamp}
 use Rattle.time_state.proofs.Turns.{opening_stands}
 use Rattle.machine_laws.specs.Plan.{Plan, IsPlan, Call}
 use Rattle.machine_laws.specs.Machine.{Member, State, Step, member_at, blank_member, new_member, default_terms, opening, dues_to, event_in, cut_in, items_in, is_left, called_member, with_member, IsLawful, after, IsRun}

@@ -6,7 +6,7 @@ use Rattle.hel_lists.specs.Members.{Each}
 use Rattle.time_state.specs.Fed.{Fed, IsFed, event_of, is_asking}
 use Rattle.time_state.specs.declared.Phase.{Phase}
 use Rattle.time_state.specs.declared.Phase.TheVariants.{Entering, Waiting}
-use Rattle.time_state.proofs.Turns.{event_goes}
+use Rattle.time_state.proofs.Ranges.{event_goes}
 use Rattle.machine_laws.specs.Plan.{Plan, IsPlan}
 use Rattle.machine_laws.specs.Machine.{Member, State, Step, member_at, dues_to, cut_in, opening, IsLawful, after, IsRun}
 use Rattle.machine_laws.specs.Machine.Step.{make, grant}
