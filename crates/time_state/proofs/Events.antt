@@ -26,6 +26,7 @@ least_is P f s (due ∷ dues) here there =
 lesser_rank : (a b : At) → IsStamp a → IsStamp b → rank (lesser a b) ≡ min (rank a) (rank b)
 lesser_rank a b ra rb = rw (order_of b a rb ra) (grind (arith, nat_tests))
 
+-- and is one of them
 lesser_is : (a b : At) → IsStamp a → IsStamp b → IsStamp (lesser a b)
 lesser_is a b ra rb = elim (before b a) as (λ t. IsStamp (if t then b else a)) [ true ↦ rb | false ↦ ra ]
 
@@ -66,6 +67,7 @@ event_waiting f dues waits = rw waits refl
 pub event_counts : (f : Fed) (dues : List At) → Counts f → event_of f dues ≡ least_with f (request_stamp f) dues
 event_counts f dues counts = event_waiting f dues counts.0 ∙ ap (λ (b : Bool). if b then request_stamp f else least_with f (request_stamp f) dues) counts.1
 
+-- items count or not
 counts_or_not : (f : Fed) → Counts f ⊎ (Counts f → ⊥)
 counts_or_not f = elim (waiting_or_not f.phase) [ inl is ↦ by_flag is f.settings.uninterruptible refl | inr not ↦ inr (λ counts. not counts.0) ]
   where

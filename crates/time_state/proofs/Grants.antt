@@ -36,6 +36,7 @@ cut_either f s = elim (waiting_or_not f.phase) [ inl is ↦ rw is (chosen (f.set
     chosen true = inr refl
     chosen false = inl refl
 
+-- a cut isn't below the event
 pub cut_low : (f : Fed) (dues : List At) → IsFed f → Each IsDue dues → rank (event_of f dues) ≤ rank (cut_of f dues)
 cut_low f dues fed due =
     let s : At = event_of f dues in
@@ -46,6 +47,7 @@ cut_low f dues fed due =
       | inr e ↦ let same : rank (cut_at f s) ≡ rank (next_of s) = ap rank e in omega (arith, same, next, is)
     ]
 
+-- nor above the next stamp
 pub cut_high : (f : Fed) (dues : List At) → IsFed f → Each IsDue dues → rank (cut_of f dues) ≤ rank (event_of f dues) + 1
 cut_high f dues fed due =
     let s : At = event_of f dues in
@@ -65,6 +67,7 @@ cut_near f s fits small = elim (cut_either f s) [
     Near : At → Type 0
     Near c = IsEvent c × (rank s ≤ rank c) × (rank c ≤ rank s + 1)
 
+-- each cut but that of one that has finished is in the range of events
 pub cut_is : (f : Fed) (dues : List At) → IsFed f → Each IsDue dues → f.phase ≢ Ended Finished → IsEvent (cut_of f dues)
 cut_is f dues fed due other =
     let event = event_is f dues fed due other in
@@ -75,13 +78,15 @@ cut_is f dues fed due other =
       | inr idle ↦ subst (λ (c : At). IsEvent c) (sym (cut_idle f (event_of f dues) idle)) event
     ]
 
+-- equal times
 same_time : (a b : ℕ) → (a == b) ≡ true → a ≡ b
 same_time a b e = grind (arith, nat_tests)
 
+-- different times
 other_time : (a b : ℕ) → (a == b) ≡ false → a ≡ b → ⊥
 other_time a b e same = grind (arith, nat_tests)
 
--- from a waiting federate
+-- where a waiting federate goes is a step
 step_waiting : (f : Fed) (s : At) → IsFed f → f.phase ≡ Waiting → Goes f s → Steps f s → IsStep f s
 step_waiting f s fed waits goes steps = record {
   rises = order_of f.last s (let e = last_event f fed in (omega arith, omega arith)) (stamp_of f s fed goes) ∙ less (rank f.last) (rank s) goes.rises;
@@ -105,7 +110,7 @@ step_waiting f s fed waits goes steps = record {
     small : (m t now last n : ℕ) → n ≤ 10000 → now * 2 ^ 64 + last < t * 2 ^ 64 + m → m ≤ 2 ^ 62 + 2 + n → (now < t → m ≤ 2 ^ 62 + 1) → m ≤ 2 ^ 62 + 1 + (if t == now then n + 1 else 0)
     small m t now last n few rises most new = grind (arith, nat_tests)
 
--- at the entry
+-- and so is the entry
 step_entering : (f : Fed) → IsFed f → f.phase ≡ Entering → IsStep f (record { time = 0; micro = 1 })
 step_entering f fed enters = record {
   rises = subst (λ (last : At). before last (record { time = 0; micro = 1 }) ≡ true) (sym (fed.first (rw enters refl))) refl;
@@ -123,6 +128,7 @@ step_entering f fed enters = record {
     clash : f.phase ≡ Entering → f.phase ≡ Waiting → ⊥
     clash is waits = cc
 
+-- a grant goes to a step
 pub grant_steps : (f : Fed) (dues : List At) → IsFed f → Each IsDue dues → is_asking f.phase ≡ true → IsStep f (event_of f dues)
 grant_steps f dues fed due asks = by_phase f.phase refl
   where
@@ -163,5 +169,6 @@ step_stands f s fed step =
     low : (t : ℕ) → (nat_lt t horizon || t == max_time) ≡ true → t ≤ max_time
     low t e = grind (arith, nat_tests)
 
+-- what is kept over a grant
 pub grant_stands : (f : Fed) (dues : List At) → IsFed f → Each IsDue dues → is_asking f.phase ≡ true → IsFed (granted f dues)
 grant_stands f dues fed due asks = step_stands f (event_of f dues) fed (grant_steps f dues fed due asks)
