@@ -27,7 +27,7 @@ impl From<AllocError> for FileRefusal {
     }
 }
 
-/// Files by their paths.
+/// Files by their paths (docs/RULES.md, The outside).
 pub trait Files {
     /// How often a call has failed. The count stands still at its type's end.
     ghost faults: { Self → ℕ };
@@ -38,15 +38,18 @@ pub trait Files {
     /// The path of the last read that failed.
     ghost failed_path: { Self → List ℕ };
 
-    /// The whole file at a path, of at most 16,777,216 bytes.
+    /// The whole file at a path. Where the content is told and longer than 16,777,216 bytes, a
+    /// call that doesn't fail answers `TooLarge`.
     fn read(&mut self, alloc: Global, path: &str) -> Result<Vec<u8>, FileRefusal>
-        ensures bytes { IfOk result (λ v. IfSome (content self.old path.now) (λ told. v.items ≡ told)) }
+        ensures bytes { IfOk result (λ v.
+            IfSome (content self.old path.now) (λ told. v.items ≡ told)) }
         ensures small { IfOk result (λ v. length v.items ≤ file_limit) }
         ensures large { result ≡ Err FileRefusal.TooLarge →
             IfSome (content self.old path.now) (λ told. file_limit < length told) }
         ensures same { (p : List ℕ) → content self.new p ≡ content self.old p }
 
-        // A call answers Failed only where the count rose, and only such a call changes the count and the kept path.
+        // A call answers Failed only where the count rose, and no other call changes the count
+        // or the kept path.
         ensures rose { result ≡ Err FileRefusal.Failed → Rose (faults self.old) (faults self.new) }
         ensures kept { result ≡ Err FileRefusal.Failed → failed_path self.new ≡ path.now }
         ensures later { faults self.old ≤ faults self.new }

@@ -35,7 +35,13 @@ impl Model for MemFiles {
 
     ghost Value = { FilesInMemory };
 
-    ghost view = { λ s. record { files = s.files.items; failing = s.failing.items; calls = s.calls; faults = s.faults; failed_path = string_bytes s.failed_path } };
+    ghost view = { λ s. record {
+      files = s.files.items;
+      failing = s.failing.items;
+      calls = s.calls;
+      faults = s.faults;
+      failed_path = string_bytes s.failed_path;
+    } };
 }
 
 impl MemFiles {
@@ -125,7 +131,8 @@ impl Files for MemFiles {
 }
 
 fn copied_files(alloc: Global, files: &[(&str, &[u8])]) -> Result<Vec<MemFile>, OutOfMemory>
-    ensures { IfOk result (λ v. v.items ≡ map (λ f. record { path = f.0.now; bytes = f.1.now }) files.now) }
+    ensures { IfOk result (λ v.
+        v.items ≡ map (λ f. record { path = f.0.now; bytes = f.1.now }) files.now) }
 {
     let mut copies = Vec::new(alloc);
     for (path, bytes) in files {

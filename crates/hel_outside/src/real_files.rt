@@ -1,4 +1,5 @@
-ghost use Rattle.std.specs.Prelude.{◌≡◌, None};
+ghost use Rattle.std.specs.Prelude.{◌≡◌, ◌≤◌, ◌<◌, length, IfOk, IfErr, None};
+ghost use Rattle.hel_outside.specs.Faults.{file_limit};
 ghost use Rattle.hel_outside.specs.RealFiles.{no_fault};
 
 use crate::files::{FILE_LIMIT, FileRefusal, Files};
@@ -8,7 +9,9 @@ use std::io::{ErrorKind, Read};
 use std::marker::Model;
 use std::{io, rt};
 
-/// The files of the system. It counts its errors, and tells nothing of what it holds.
+/// The files of the system: `RealFiles::new(rt.alloc(), rt)` in `main`. It counts its errors, and
+/// tells nothing of what it holds. A read copies the path first, so that want of memory for it is
+/// answered before anything is read, and reads at most one byte more than it may give.
 #[derive(Drop)]
 pub struct RealFiles<R> {
     runtime: R,
@@ -62,8 +65,7 @@ impl<R: rt::Files + Drop> Files for RealFiles<R> {
     fn read(&mut self, alloc: Global, path: &str) -> Result<Vec<u8>, FileRefusal> {
         let asked = String::from_str(alloc, path)?;
         match first_bytes(alloc, &self.runtime, path) {
-            Ok(bytes) if bytes.len() > FILE_LIMIT => Err(FileRefusal::TooLarge),
-            Ok(bytes) => Ok(bytes),
+            Ok(bytes) => within_limit(bytes),
             Err(e) if e.kind() == ErrorKind::OutOfMemory => Err(FileRefusal::OutOfMemory),
             Err(_) => {
                 self.faults = self.faults.saturating_add(1);
@@ -74,10 +76,22 @@ impl<R: rt::Files + Drop> Files for RealFiles<R> {
     }
 }
 
-// The bytes of a file, up to one more than are taken.
+// The bytes of a file, up to one more than a read gives.
 fn first_bytes<R: rt::Files>(alloc: Global, runtime: &R, path: &str) -> io::Result<Vec<u8>> {
     let mut bytes = Vec::new(alloc);
     let file = File::open(runtime, path)?;
     file.take(FILE_LIMIT as u64 + 1).read_to_end(&mut bytes)?;
+    Ok(bytes)
+}
+
+// What was read, where it isn't longer than a read gives.
+fn within_limit(bytes: Vec<u8>) -> Result<Vec<u8>, FileRefusal>
+    ensures ok { IfOk result (λ v. (v.items ≡ bytes.items) × (length v.items ≤ file_limit)) }
+    ensures err { IfErr result (λ e.
+        (e ≡ FileRefusal.TooLarge) × (file_limit < length bytes.items)) }
+{
+    if bytes.len() > FILE_LIMIT {
+        return Err(FileRefusal::TooLarge);
+    }
     Ok(bytes)
 }

@@ -5,7 +5,7 @@ ghost use Rattle.hel_outside.specs.Faults.{Rose, Gains, GainsPart};
 #[derive(Clone, Copy, Debug, PartialEq, Eq)]
 pub struct Failed;
 
-/// Where bytes go.
+/// Where bytes go (docs/RULES.md, The outside).
 pub trait Sink {
     /// How often a call has failed. The count stands still at its type's end.
     ghost faults: { Self → ℕ };
@@ -21,7 +21,7 @@ pub trait Sink {
         ensures ok { IfOk result (λ n. Gains (written self.old) (written self.new) (take n bytes.now)) }
         ensures err { OnErr result (written self.new ≡ written self.old) }
 
-        // A call fails only where the count rose, and only such a call changes the count.
+        // A call fails only where the count rose, and no other call changes the count.
         ensures rose { OnErr result (Rose (faults self.old) (faults self.new)) }
         ensures later { faults self.old ≤ faults self.new }
         ensures quiet { OnOk result (faults self.new ≡ faults self.old) };

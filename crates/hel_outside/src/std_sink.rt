@@ -4,8 +4,10 @@ use crate::sink::{Failed, Sink};
 use std::io::Write;
 use std::marker::Model;
 
-/// A stream of the process, as `rt.stdout()` or `rt.stderr()`. It counts its errors, and tells
-/// nothing of what was written: contracts see the count alone.
+/// A stream of the process: `StdSink::new(rt.stdout())` or `StdSink::new(rt.stderr())` in `main`.
+/// It counts its errors, and tells nothing of what was written: contracts see the count alone. Each
+/// call is one call of the stream's `write`, and whatever that answers but some of the bytes is a
+/// fault.
 #[derive(Drop)]
 pub struct StdSink<W> {
     stream: W,
