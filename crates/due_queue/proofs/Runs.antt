@@ -107,7 +107,7 @@ keeps (takes_back source seq count ∷ calls) came before after so_far run = kee
     more = record {
       in_order = filter_in_order is_sooner (is_made_otherwise source seq) before so_far.in_order;
       same = λ place. filter_commutes (is_at place) (is_made_otherwise source seq) before ∙ ap (filter (is_made_otherwise source seq)) (so_far.same place)
-        ∙ filter_commutes (is_made_otherwise source seq) (is_at place) came;
+          ∙ filter_commutes (is_made_otherwise source seq) (is_at place) came;
     }
 
 pub runs_arrange : (calls : List Call) (content : List Parcel) → Runs [] calls content → Arranges (kept [] calls) content

@@ -132,7 +132,8 @@ impl PartialEq for Content {
                     value: other_value,
                 },
             ) => input == other_input && publication == other_publication && value == other_value,
-            (Content::Message(message), Content::Message(other_message)) => message == other_message,
+            (Content::Message(message), Content::Message(other_message)) => message
+                == other_message,
             _ => false,
         }
     }
