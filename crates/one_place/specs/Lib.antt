@@ -5,3 +5,4 @@ pub mod Machine
 pub mod Members
 pub mod Reference
 pub mod Text
+pub mod Run

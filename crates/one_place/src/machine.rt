@@ -1,4 +1,4 @@
-ghost use Rattle.std.specs.Prelude.{◌≡◌, ◌≤◌, Some, None, option_map, OnOk, OnErr, IfOk};
+ghost use Rattle.std.specs.Prelude.{◌≡◌, ◌≤◌, Some, None, length, option_map, OnOk, OnErr, IfOk};
 ghost use Rattle.helics_time.specs.Time.{max_time};
 ghost use Rattle.time_state.specs.Fed.{request_refusal};
 ghost use Rattle.machine_laws.specs.declared.refusal.CallRefusal.TheVariants.{NotOwner};
@@ -72,6 +72,13 @@ impl Machine {
             members,
         } = self;
         members.into_logs()
+    }
+
+    /// The number of federates.
+    pub fn count(&self) -> usize
+        ensures { result ≡ length self.now.state.members }
+    {
+        self.members.len()
     }
 
     /// The phase of a federate, and `Created` where the plan has none of this number.
