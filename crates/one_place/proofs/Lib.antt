@@ -1,6 +1,7 @@
 pub mod Halting
 pub mod Mapped
 pub mod Opening
+pub mod Plans
 pub mod Scripts
 pub mod Seats
 pub mod Starting

@@ -2,7 +2,8 @@ pub mod Plan
 pub mod Script
 pub mod Step
 pub mod Machine
+pub mod Laws
 pub mod Members
 pub mod Reference
-pub mod Text
 pub mod Run
+pub mod Text

@@ -1,0 +1,18 @@
+// Laws of plans and of the machine's steps.
+ghost use Rattle.one_place.specs.Laws.{NamesPlan, StepsRun, ReferenceRuns};
+
+/// Whatever the names, a plan has all that the laws of runs need: docs/RULES.md, Plans.
+pub fn plan_laws()
+    ensures { NamesPlan }
+{}
+
+/// The steps that a machine accepts from its opening on are a run of its plan. So each law of the crate
+/// `machine_laws` holds of it: docs/RULES.md, Steps.
+pub fn steps_run()
+    ensures { StepsRun }
+{}
+
+/// The logs of a reference run are those of a run of its plan too: docs/RULES.md, Reference run.
+pub fn reference_runs()
+    ensures { ReferenceRuns }
+{}
