@@ -1,9 +1,9 @@
 -- The items to one federate, of all in canonical order, are a queue.
-use Rattle.std.proofs.Common.{◌≡◌, inl, inr, ℕ, true, false, refl, sym, ◌∙◌, ap, List, [], ◌∷◌}
+use Rattle.std.proofs.Common.{◌≡◌, inl, inr, ℕ, refl, sym, ◌∙◌, ap, List, [], ◌∷◌}
 use Rattle.std.specs.List.{filter}
 use Rattle.std.proofs.lemmas.Bool.{cases_Bool}
 use Rattle.std.proofs.lemmas.Bool.Decides.{Decides-eqb}
-use Rattle.hel_lists.specs.Members.{IsIn, Each}
+use Rattle.hel_lists.specs.Members.{Each}
 use Rattle.hel_lists.proofs.Members.{in_filter}
 use Rattle.due_queue.specs.Item.{Parcel, is_to}
 use Rattle.due_queue.specs.Order.{comes_before, is_sooner, InOrder, InDueOrder, insert, enqueue}

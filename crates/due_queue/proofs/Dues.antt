@@ -1,7 +1,6 @@
 -- What the calls of a queue do to a list in its order.
-use Rattle.std.proofs.Common.{◌≡◌, ◌⊎◌, inl, inr, ℕ, zero, suc, ◌+◌, ◌<◌, ◌≤◌, Bool, true, false, not, arith, refl, sym, ◌∙◌, ap, subst, List, [], ◌∷◌, ◌++◌, length, take, drop, get_or}
-use Rattle.std.specs.Prelude.{nat_lt, ◌==◌, ◌&&◌, ◌||◌, if◌then◌else◌, insert, count_by, IfSome, Option, Some, None}
-use Rattle.std.specs.Option.{option_to_list}
+use Rattle.std.proofs.Common.{◌≡◌, inl, inr, ℕ, zero, suc, ◌+◌, ◌<◌, ◌≤◌, Bool, true, false, not, arith, refl, sym, ◌∙◌, ap, List, [], ◌∷◌, ◌++◌, length, take, get_or}
+use Rattle.std.specs.Prelude.{nat_lt, ◌==◌, ◌&&◌, ◌||◌, insert, count_by, IfSome}
 use Rattle.std.proofs.lemmas.List.Filters.{length-filter_both}
 use Rattle.std.proofs.lemmas.List.Sums.{length-filter}
 use Rattle.std.specs.List.{filter, AllWithin}
@@ -12,9 +11,8 @@ use Rattle.hel_lists.specs.Members.{IsIn, Each}
 use Rattle.hel_lists.proofs.Members.{filter_holds, filter_fails}
 use Rattle.helics_time.specs.Stamp.{At, at_most}
 use Rattle.due_queue.specs.Item.{Parcel, is_due}
-use Rattle.due_queue.specs.Sorted.{IsInOrder, insert_by}
-use Rattle.due_queue.specs.Order.{lex, is_sooner, InDueOrder, enqueue}
-use Rattle.due_queue.specs.Queue.{IsPutIn, TakesDue, first_due, is_first_due}
+use Rattle.due_queue.specs.Order.{is_sooner, InDueOrder, enqueue}
+use Rattle.due_queue.specs.Queue.{IsPutIn, first_due, is_first_due}
 use Rattle.due_queue.proofs.Sorted.{before_each, insert_by_first, insert_by_later}
 use Rattle.due_queue.proofs.Order.{is_sooner_order}
 

@@ -1,6 +1,6 @@
 -- After any calls a queue is the ordered list of the items put and not taken out, and there is only one.
-use Rattle.std.proofs.Common.{◌≡◌, ◌≢◌, ◌⊎◌, inl, inr, ℕ, Bool, true, false, refl, sym, ◌∙◌, ap, subst, List, [], ◌∷◌, ◌++◌, drop, append-nil}
-use Rattle.std.specs.Prelude.{if◌then◌else◌, Some, None}
+use Rattle.std.proofs.Common.{◌≡◌, ◌≢◌, inl, inr, ℕ, Bool, true, false, refl, sym, ◌∙◌, ap, subst, List, [], ◌∷◌, ◌++◌, drop, append-nil}
+use Rattle.std.specs.Prelude.{Some, None}
 use Rattle.std.specs.List.{filter}
 use Rattle.std.proofs.lemmas.Bool.{cases_Bool, true≢false, false≢true}
 use Rattle.std.proofs.lemmas.List.Elements.{filter-append}
@@ -10,7 +10,7 @@ use Rattle.hel_lists.proofs.Members.{in_filter, filter_holds, filter_fails, filt
 use Rattle.due_queue.specs.Item.{Parcel}
 use Rattle.due_queue.specs.Order.{due_key, is_sooner, InDueOrder, enqueue}
 use Rattle.due_queue.specs.Queue.{is_made_otherwise}
-use Rattle.due_queue.specs.Runs.{Call, puts, takes_due, takes_back, Does, Runs, is_at, without, kept, Arranges}
+use Rattle.due_queue.specs.Runs.{Call, puts, takes_due, takes_back, Runs, is_at, without, kept, Arranges}
 use Rattle.due_queue.proofs.Sorted.{before_each, insert_by_first, insert_by_later, filter_in_order, insert_by_in_order}
 use Rattle.due_queue.proofs.Order.{is_sooner_order, sooner_total, sooner_same_place}
 use Rattle.due_queue.proofs.Dues.{not_itself, filter_none}

@@ -1,10 +1,9 @@
 -- A queue of items: what its calls do.
 use Rattle.std.specs.Prelude.{ℕ, ◌≡◌, Bool, true, false, not, List, [], ◌∷◌, ◌++◌, Option, Some, None}
-use Rattle.std.specs.List.{filter, count_by}
 use Rattle.hel_lists.specs.Members.{Each}
 use Rattle.helics_time.specs.Stamp.{At}
 use Rattle.due_queue.specs.Item.{Parcel, is_due, is_made_by}
-use Rattle.due_queue.specs.Order.{is_sooner, enqueue}
+use Rattle.due_queue.specs.Order.{is_sooner}
 
 -- item stands behind all that it isn't sooner than, and ahead of the others
 abbrev pub IsPutIn : Parcel → List Parcel → List Parcel → Type 0

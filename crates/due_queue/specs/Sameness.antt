@@ -1,5 +1,5 @@
 -- The tests of equality tell exactly whether two messages, contents or items are one.
-use Rattle.std.proofs.Common.{◌≡◌, true, ap, refl, sym}
+use Rattle.std.proofs.Common.{◌≡◌, ap}
 use Rattle.std.specs.Bool.{Decides}
 use Rattle.std.proofs.lemmas.Bool.{false≢true}
 use Rattle.std.proofs.lemmas.Bool.Decides.{Decides-eqb, Decides-and, Decides-like}

@@ -8,3 +8,6 @@ mod queue;
 pub use item::{Content, Item, Message};
 pub use laws::{canonical_laws, queue_laws};
 pub use queue::DueQueue;
+
+#[cfg(test)]
+mod tests;

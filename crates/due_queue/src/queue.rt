@@ -84,6 +84,13 @@ impl DueQueue {
         self.items.len()
     }
 
+    /// Whether there are none.
+    pub fn is_empty(&self) -> bool
+        ensures { IsTrue result ↔ (self.now ≡ []) }
+    {
+        self.items.is_empty()
+    }
+
     /// Copies of the items that are due by the cut, in order.
     pub fn due_copies(&self, cut: Stamp) -> Result<Items<Item>, OutOfMemory>
         ensures { IfOk result (λ copies. copies ≡ filter (is_due cut) self.now) }

@@ -1,6 +1,6 @@
 use Rattle.std.proofs.Common.{rules, arith, ap, length}
 use Rattle.std.proofs.lemmas.Fn.{filter_same}
-use Rattle.due_queue.specs.Item.{Parcel, is_made_by}
+use Rattle.due_queue.specs.Item.{is_made_by}
 use Rattle.due_queue.specs.Queue.{is_made_otherwise}
 use Rattle.due_queue.proofs.Dues.{counts}
 use Rattle.due_queue.proofs.queue.take_call.Goals as goal

@@ -1,7 +1,4 @@
-use Rattle.std.proofs.Common.{rules, subst, sym}
-use Rattle.due_queue.specs.Item.{Parcel}
-use Rattle.due_queue.specs.Order.{is_sooner, InDueOrder}
-use Rattle.due_queue.specs.Queue.{IsPutIn}
+use Rattle.due_queue.specs.Order.{is_sooner}
 use Rattle.due_queue.proofs.Order.{is_sooner_order}
 use Rattle.due_queue.proofs.Sorted.{insert_by_in_order}
 use Rattle.due_queue.proofs.Dues.{enqueue_puts}

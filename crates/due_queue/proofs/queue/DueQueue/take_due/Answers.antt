@@ -1,5 +1,4 @@
 use Rattle.std.proofs.Common.{refl, sym, ◌∙◌}
-use Rattle.std.proofs.lemmas.Grind.{common_steps}
 use Rattle.due_queue.proofs.Dues.{first_not_due}
 use Rattle.due_queue.proofs.queue.DueQueue.take_due.Goals as goal
 
