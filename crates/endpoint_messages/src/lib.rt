@@ -10,7 +10,7 @@ use std::alloc::Global;
 use std::collections::VecDeque;
 use std::marker::Model;
 
-/// A received message as a script sees it (docs/RULES.md, Messages).
+/// A received message as a script sees it (docs/RULES.md, Values).
 #[derive(Debug, Drop)]
 pub struct Letter {
     /// The global name of its original source.
