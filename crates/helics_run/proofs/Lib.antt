@@ -1,0 +1,12 @@
+pub mod Counts
+pub mod Digits
+pub mod Folders
+pub mod Lists
+pub mod Parsing
+pub mod Orders
+pub mod Scripts
+pub mod Scenarios
+pub mod Times
+pub mod Told
+pub mod Written
+pub mod Spoken

@@ -1,0 +1,13 @@
+pub mod Words
+pub mod Order
+pub mod Json
+pub mod Form
+pub mod RunnerFile
+pub mod FederateFile
+pub mod Paths
+pub mod Reading
+pub mod Following
+pub mod Lines
+pub mod Statuses
+pub mod Command
+pub mod Answers

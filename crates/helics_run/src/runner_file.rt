@@ -1,0 +1,121 @@
+//! The runner file (docs/FORMATS.md, Runner file).
+ghost use Rattle.std.specs.Prelude.{◌≡◌, ◌≤◌, ℕ, IfOk, length, option_map};
+ghost use Rattle.std.specs.List.{list_all};
+ghost use Rattle.serde_json.specs.View.{view};
+ghost use Rattle.helics_run.specs.Json.{json_of};
+ghost use Rattle.helics_run.specs.RunnerFile.{most_federates, is_alphanumeric, is_name, is_plain, config_of, entry_seen, entry_of, entries_in_value, entries_of};
+ghost use Rattle.helics_run.specs.Form.{GivesForm};
+
+use crate::failure::{RefusalName, Unread};
+use crate::json_value::{self, Item};
+use hel_lists::{OutOfMemory, Text};
+use serde_json::Value;
+use std::alloc::Global;
+
+const MOST_FEDERATES: usize = 1;
+
+/// An entry of a runner file.
+#[derive(Debug, Drop)]
+pub struct Entry {
+    /// The federate's name.
+    pub name: Text,
+    /// The path of its federate file, as the entry spells it.
+    pub config: Text,
+}
+
+fn all_alphanumeric(bytes: &[u8]) -> bool
+    ensures { result ≡ list_all is_alphanumeric bytes.now }
+{
+    bytes
+        .iter()
+        .all(|&c| matches!(c, b'0'..=b'9' | b'A'..=b'Z' | b'a'..=b'z'))
+}
+
+fn is_name(name: &str) -> bool
+    ensures { result ≡ is_name name.now }
+{
+    !name.is_empty() && name.len() <= 255 && all_alphanumeric(name.as_bytes())
+}
+
+fn all_plain(bytes: &[u8]) -> bool
+    ensures { result ≡ list_all is_plain bytes.now }
+{
+    bytes
+        .iter()
+        .all(|&c| !matches!(c, b' ' | b'\t' | b'"' | b'\''))
+}
+
+// The path of the federate file in an entry's words.
+fn config_in(exec: &str) -> Option<&str>
+    ensures { option_map (λ t. t.now) result ≡ config_of exec.now }
+{
+    let path = exec.strip_prefix("$self fed ")?;
+    if !path.is_empty() && all_plain(path.as_bytes()) {
+        Some(path)
+    } else {
+        None
+    }
+}
+
+// The name and the path of an entry.
+fn entry_texts(value: &Value) -> Option<(&str, &str)>
+    ensures { option_map entry_seen result ≡ entry_of (view value.now) }
+{
+    if !json_value::has_keys(value, 2) {
+        return None;
+    }
+    let name = json_value::text_at(value, "name")?;
+    let config = config_in(json_value::text_at(value, "exec")?)?;
+    if is_name(name) {
+        Some((name, config))
+    } else {
+        None
+    }
+}
+
+impl Item for Entry {
+    ghost use Rattle.helics_run.specs.RunnerFile.{most_federates, entry_of};
+
+    ghost says = { entry_of };
+
+    fn read(alloc: Global, value: &Value) -> Result<Option<Self>, OutOfMemory> {
+        let Some((name, config)) = entry_texts(value) else {
+            return Ok(None);
+        };
+        let name = Text::from_str(alloc, name)?;
+        let config = Text::from_str(alloc, config)?;
+        Ok(Some(Entry { name, config }))
+    }
+}
+
+#[tactic(auto, unfolding(crate::specs::RunnerFile::entries_of))]
+/// The entries of a runner file with these bytes.
+pub fn read_entries(alloc: Global, bytes: &[u8]) -> Result<Vec<Entry>, Unread>
+    ensures few { IfOk result (λ v. length v.items ≤ most_federates) }
+    ensures said { GivesForm (λ v. v.items) result (entries_of (json_of bytes.now)) }
+{
+    let Some(value) = json_value::parse(alloc, bytes)? else {
+        return Err(Unread::Refused(RefusalName::NotBuilt));
+    };
+    entries_in(alloc, &value)
+}
+
+#[tactic(auto, using(crate::proofs::Counts::counts))]
+fn entries_in(alloc: Global, value: &Value) -> Result<Vec<Entry>, Unread>
+    ensures few { IfOk result (λ v. length v.items ≤ most_federates) }
+    ensures said { GivesForm (λ v. v.items) result (entries_in_value (view value.now)) }
+{
+    if !json_value::has_keys(value, 1) {
+        return Err(Unread::Refused(RefusalName::NotBuilt));
+    }
+    let Some(list) = json_value::list_at(value, "federates") else {
+        return Err(Unread::Refused(RefusalName::NotBuilt));
+    };
+    if list.is_empty() {
+        return Err(Unread::Refused(RefusalName::NoFederates));
+    }
+    match json_value::each_of_few(alloc, MOST_FEDERATES, list)? {
+        Some(entries) => Ok(entries),
+        None => Err(Unread::Refused(RefusalName::NotBuilt)),
+    }
+}
