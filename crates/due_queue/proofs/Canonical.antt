@@ -33,9 +33,11 @@ insert_puts i (x ∷ xs) targets =
           ∙ sym (insert_by_later is_sooner i x xs (sym alike ∙ later))
     ]
 
+-- those to a federate have it for their target
 targets_to : (f : ℕ) (xs : List Parcel) → Each (λ x. x.target ≡ f) (filter (is_to f) xs)
 targets_to f xs = λ x among. (Decides-eqb x.target f).0 (in_filter (is_to f) xs x among).1
 
+-- the laws of the canonical order
 pub canonical_laws : CanonicalLaws
 canonical_laws = record {
   inserts = insert_ordered;
@@ -47,6 +49,7 @@ canonical_laws = record {
   put_elsewhere = λ f i items fails. filter_skips (is_to f) i items fails;
 }
 
+-- the laws of a queue's order and of queues
 pub queue_laws : QueueLaws
 queue_laws = record {
   puts = insert_by_in_order is_sooner is_sooner_order;

@@ -1,6 +1,7 @@
 -- What the calls of a queue do to a list in its order.
-use Rattle.std.proofs.Common.{◌≡◌, inl, inr, ℕ, zero, suc, ◌+◌, ◌<◌, ◌≤◌, Bool, true, false, not, arith, refl, sym, ◌∙◌, ap, List, [], ◌∷◌, ◌++◌, length, take, get_or}
-use Rattle.std.specs.Prelude.{nat_lt, ◌==◌, ◌&&◌, ◌||◌, insert, count_by, IfSome}
+use Rattle.std.proofs.Common.{◌≡◌, inl, inr, ℕ, zero, suc, ◌+◌, ◌<◌, ◌≤◌, Bool, true, false, not, arith, refl, sym, ◌∙◌, ap, subst, List, [], ◌∷◌, ◌++◌, length, take, get_or}
+use Rattle.std.specs.Prelude.{nat_lt, ◌==◌, ◌&&◌, ◌||◌, insert, count_by, IfSome, Option, Some, None}
+use Rattle.std.specs.Option.{option_to_list, ForSome}
 use Rattle.std.proofs.lemmas.List.Filters.{length-filter_both}
 use Rattle.std.proofs.lemmas.List.Sums.{length-filter}
 use Rattle.std.specs.List.{filter, AllWithin}
@@ -8,23 +9,27 @@ use Rattle.std.specs.List.Sorted.{IsPartitionedBy}
 use Rattle.std.proofs.lemmas.Bool.{cases_Bool, true≢false, false≢true}
 use Rattle.std.proofs.lemmas.Bool.Decides.{nat_tests}
 use Rattle.hel_lists.specs.Members.{IsIn, Each}
-use Rattle.hel_lists.proofs.Members.{filter_holds, filter_fails}
-use Rattle.helics_time.specs.Stamp.{At, at_most}
+use Rattle.hel_lists.proofs.Members.{in_filter, filter_holds, filter_fails}
+use Rattle.helics_time.specs.Stamp.{At, IsDue, at_most}
 use Rattle.due_queue.specs.Item.{Parcel, is_due}
 use Rattle.due_queue.specs.Order.{is_sooner, InDueOrder, enqueue}
-use Rattle.due_queue.specs.Queue.{IsPutIn, first_due, is_first_due}
-use Rattle.due_queue.proofs.Sorted.{before_each, insert_by_first, insert_by_later}
+use Rattle.due_queue.specs.Queue.{IsQueue, IsPutIn, first_due, is_first_due}
+use Rattle.due_queue.proofs.Sorted.{before_each, in_insert_by, insert_by_first, insert_by_later, insert_by_in_order, filter_in_order}
 use Rattle.due_queue.proofs.Order.{is_sooner_order}
 
+-- a test whose contrary holds fails
 not_true : {b : Bool} → not b ≡ true → b ≡ false
 not_true {b} e = elim b as (λ c. not c ≡ true → c ≡ false) [ true ↦ λ f. sym f | false ↦ λ f. refl ] e
 
+-- a test whose contrary fails holds
 not_false : {b : Bool} → not b ≡ false → b ≡ true
 not_false {b} e = elim b as (λ c. not c ≡ false → c ≡ true) [ true ↦ λ f. refl | false ↦ λ f. sym f ] e
 
+-- none is sooner than itself
 pub not_itself : (x : Parcel) → is_sooner x x ≡ false
 not_itself x = elim (cases_Bool (is_sooner x x)) [ inl holds ↦ is_sooner_order.one_way x x holds | inr fails ↦ fails ]
 
+-- what stands at an index is one of the list
 get_or_in : (xs : List Parcel) (j : ℕ) (d : Parcel) → j < length xs → IsIn (get_or xs j d) xs
 get_or_in [] j d high = absurd (omega arith)
 get_or_in (x ∷ xs) zero d high = inl refl
@@ -38,12 +43,14 @@ due_at_most i j fails = step i.due.time i.due.micro j.due.time j.due.micro _ fai
     step : (t m u n : ℕ) (p : Bool) → (nat_lt u t || (u == t && (nat_lt n m || (n == m && p)))) ≡ false → (nat_lt t u || (t == u && (nat_lt m n || m == n))) ≡ true
     step t m u n p fails = grind (arith, nat_tests)
 
+-- a stamp is at most itself
 pub at_most_same : (s : At) → at_most s s ≡ true
 at_most_same s = step s.time s.micro
   where
     step : (t m : ℕ) → (nat_lt t t || (t == t && (nat_lt m m || m == m))) ≡ true
     step t m = grind (arith, nat_tests)
 
+-- a stamp that is at most another is at most all that this one is at most
 at_most_trans : (a b c : At) → at_most a b ≡ true → at_most b c ≡ true → at_most a c ≡ true
 at_most_trans a b c first second = step a.time a.micro b.time b.micro c.time c.micro first second
   where
@@ -112,10 +119,12 @@ puts_partitioned i xs order = λ j k d low high later. elim (cases_Bool (is_soon
 pub dues_partitioned : (cut : At) (xs : List Parcel) → InDueOrder xs → IsPartitionedBy (is_due cut) xs
 dues_partitioned cut xs order = λ j k d low high later. at_most_trans (get_or xs j d).due (get_or xs k d).due cut (due_at_most (get_or xs j d) (get_or xs k d) (at_in_order xs j k d order low high)) later
 
+-- a test that all fail leaves nothing
 pub filter_none : (p : Parcel → Bool) (xs : List Parcel) → Each (λ x. p x ≡ false) xs → filter p xs ≡ []
 filter_none p [] each = refl
 filter_none p (x ∷ xs) each = filter_fails p x xs (each x (inl refl)) ∙ filter_none p xs (λ y among. each y (inr among))
 
+-- a test that all pass leaves all
 filter_each : (p : Parcel → Bool) (xs : List Parcel) → Each (λ x. p x ≡ true) xs → filter p xs ≡ xs
 filter_each p [] each = refl
 filter_each p (x ∷ xs) each = filter_holds p x xs (each x (inl refl)) ∙ ap (λ (l : List Parcel). x ∷ l) (filter_each p xs (λ y among. each y (inr among)))
@@ -152,3 +161,26 @@ first_not_due cut (i ∷ items) order late = none_due cut i items order late
 -- those that pass a test and the others are all
 pub counts : (p : Parcel → Bool) (xs : List Parcel) → length (filter (λ x. not (p x)) xs) + count_by p xs ≡ length xs
 counts p xs = omega (arith, length-filter_both p (λ x. not (p x)) (λ x. refl) xs, length-filter p xs)
+
+-- with one more it is a queue
+pub enqueue_is_queue : (i : Parcel) (items : List Parcel) → IsDue i.due → IsQueue items → IsQueue (enqueue i items)
+enqueue_is_queue i items due queue = record {
+  in_order = insert_by_in_order is_sooner is_sooner_order i items queue.in_order;
+  dues = λ j among. elim (in_insert_by is_sooner i items j among) [ inl new ↦ subst (λ (k : Parcel). IsDue k.due) (sym new) due | inr old ↦ queue.dues j old ];
+}
+
+-- what a test leaves of a queue is one
+pub filter_is_queue : (p : Parcel → Bool) (items : List Parcel) → IsQueue items → IsQueue (filter p items)
+filter_is_queue p items queue = record { in_order = filter_in_order is_sooner p items queue.in_order; dues = λ j among. queue.dues j (in_filter p items j among).0 }
+
+-- what is left behind the first is one
+pub rest_is_queue : (taken : Option Parcel) (items rest : List Parcel) → items ≡ option_to_list taken ++ rest → IsQueue items → IsQueue rest
+rest_is_queue None items rest split queue = subst IsQueue split queue
+rest_is_queue (Some i) items rest split queue =
+    let whole : IsQueue (i ∷ rest) = subst IsQueue split queue in
+    record { in_order = whole.in_order.1; dues = λ j among. whole.dues j (inr among) }
+
+-- the due of the first is one that an item may have
+pub first_due_bounds : (items : List Parcel) → Each (λ i. IsDue i.due) items → ForSome (first_due items) IsDue
+first_due_bounds [] each = λ due none. absurd (cc none)
+first_due_bounds (i ∷ items) each = λ due same. subst IsDue (cc same) (each i (inl refl))

@@ -15,9 +15,11 @@ use Rattle.due_queue.proofs.Sorted.{before_each, insert_by_first, insert_by_late
 use Rattle.due_queue.proofs.Order.{is_sooner_order, sooner_total, sooner_same_place}
 use Rattle.due_queue.proofs.Dues.{not_itself, filter_none}
 
+-- an item is at its own place
 at_own : (i : Parcel) → is_at (due_key i) i ≡ true
 at_own i = (bytes_eq-Decides (due_key i) (due_key i)).1 refl
 
+-- an item at a place has it
 place_of : (place : List ℕ) (i : Parcel) → is_at place i ≡ true → due_key i ≡ place
 place_of place i holds = (bytes_eq-Decides (due_key i) place).0 holds
 
@@ -48,6 +50,7 @@ filter_puts place i (x ∷ xs) order = elim (cases_Bool (is_sooner i x)) [
       ]
 ]
 
+-- without its first item a place has all but that one
 without_there : (place : List ℕ) (xs : List Parcel) → filter (is_at place) (without place xs) ≡ drop 1 (filter (is_at place) xs)
 without_there place [] = refl
 without_there place (x ∷ xs) = elim (cases_Bool (is_at place x)) [
@@ -55,6 +58,7 @@ without_there place (x ∷ xs) = elim (cases_Bool (is_at place x)) [
   | inr fails ↦ rw fails (filter_fails (is_at place) x (without place xs) fails ∙ without_there place xs)
 ]
 
+-- and every other place has what it had
 without_elsewhere : (place other : List ℕ) (xs : List Parcel) → other ≢ place → filter (is_at other) (without place xs) ≡ filter (is_at other) xs
 without_elsewhere place other [] differs = refl
 without_elsewhere place other (x ∷ xs) differs = elim (cases_Bool (is_at place x)) [
@@ -110,6 +114,7 @@ keeps (takes_back source seq count ∷ calls) came before after so_far run = kee
           ∙ filter_commutes (is_made_otherwise source seq) (is_at place) came;
     }
 
+-- after any calls of an empty queue its content is the items kept, arranged
 pub runs_arrange : (calls : List Call) (content : List Parcel) → Runs [] calls content → Arranges (kept [] calls) content
 runs_arrange calls content run = keeps calls [] [] content (record { in_order = tt; same = λ place. refl }) run
 
@@ -140,5 +145,6 @@ same_lists (x ∷ xs) (y ∷ ys) xs_order ys_order same = let rest = same_lists 
         cc
     others place false fails = sym (filter_fails (is_at place) x xs fails) ∙ same place ∙ filter_fails (is_at place) y ys (sym (ap (is_at place) first) ∙ fails)
 
+-- items are arranged in one way
 pub arranged_one : (came content other : List Parcel) → Arranges came content → Arranges came other → content ≡ other
 arranged_one came content other a b = same_lists content other a.in_order b.in_order (λ place. a.same place ∙ sym (b.same place))

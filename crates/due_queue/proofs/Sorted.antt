@@ -19,9 +19,11 @@ module _ {A : Type 0} (before : A → A → Bool) where
     ]
   ]
 
+  -- what comes before the first goes in front of it
   pub insert_by_first : (i x : A) (xs : List A) → before i x ≡ true → insert_by before i (x ∷ xs) ≡ i ∷ x ∷ xs
   insert_by_first i x xs holds = rw holds refl
 
+  -- and else behind it
   pub insert_by_later : (i x : A) (xs : List A) → before i x ≡ false → insert_by before i (x ∷ xs) ≡ x ∷ insert_by before i xs
   insert_by_later i x xs fails = rw fails refl
 
@@ -30,6 +32,7 @@ module _ {A : Type 0} (before : A → A → Bool) where
   insert_by_front i [] each = refl
   insert_by_front i (x ∷ xs) each = insert_by_first i x xs (each x (inl refl))
 
+  -- what a test leaves is in order
   pub filter_in_order : (p : A → Bool) (xs : List A) → IsInOrder before xs → IsInOrder before (filter p xs)
   filter_in_order p [] order = tt
   filter_in_order p (x ∷ xs) order =
@@ -47,6 +50,7 @@ module _ {A : Type 0} (before : A → A → Bool) where
       | inr later ↦ weak.past i x y holds (order.0 y later)
     ]
 
+    -- with one more it is in order
     pub insert_by_in_order : (i : A) (xs : List A) → IsInOrder before xs → IsInOrder before (insert_by before i xs)
     insert_by_in_order i [] order = ((λ j none. absurd none), tt)
     insert_by_in_order i (x ∷ xs) order = elim (cases_Bool (before i x)) [

@@ -1,9 +1,14 @@
 -- A queue of items: what its calls do.
 use Rattle.std.specs.Prelude.{ℕ, ◌≡◌, Bool, true, false, not, List, [], ◌∷◌, ◌++◌, Option, Some, None}
 use Rattle.hel_lists.specs.Members.{Each}
-use Rattle.helics_time.specs.Stamp.{At}
+use Rattle.helics_time.specs.Stamp.{At, IsDue}
 use Rattle.due_queue.specs.Item.{Parcel, is_due, is_made_by}
-use Rattle.due_queue.specs.Order.{is_sooner}
+use Rattle.due_queue.specs.Order.{is_sooner, InDueOrder}
+
+-- in order, and each with a due that an item may have
+pub record IsQueue (items : List Parcel) : Type 0 where
+  pub in_order : InDueOrder items
+  pub dues : Each (λ i. IsDue i.due) items
 
 -- item stands behind all that it isn't sooner than, and ahead of the others
 abbrev pub IsPutIn : Parcel → List Parcel → List Parcel → Type 0

@@ -11,11 +11,13 @@ use Rattle.due_queue.specs.declared.item.Content.{Content}
 use Rattle.due_queue.specs.declared.item.Content.TheVariants.{Value, Message}
 use Rattle.due_queue.specs.Item.{Parcel, same_end, same_message, same_content, same_parcel}
 
+-- of two references to interfaces
 pub same_end-Decides : (a b : EndRef) → Decides (same_end a b) (a ≡ b)
 same_end-Decides a b =
     Decides-like _ (λ both. λ k. record { fed = both.0 k; index = both.1 k }) (λ e. (ap (λ (c : EndRef). c.fed) e, ap (λ (c : EndRef). c.index) e))
     (Decides-and _ _ (Decides-eqb a.fed b.fed) (Decides-eqb a.index b.index))
 
+-- of two messages
 pub same_message-Decides : (a b : MessageRecord) → Decides (same_message a b) (a ≡ b)
 same_message-Decides a b =
     let ends = Decides-and _ _ (Decides-and _ _ (Decides-and _ _ (same_end-Decides a.source b.source) (same_end-Decides a.original_source b.original_source)) (same_end-Decides a.destination b.destination)) (same_end-Decides a.original_destination b.original_destination) in
@@ -31,6 +33,7 @@ same_message-Decides a b =
       (λ e. all.1 (((((ap (λ (m : MessageRecord). m.source) e, ap (λ (m : MessageRecord). m.original_source) e), ap (λ (m : MessageRecord). m.destination) e), ap (λ (m : MessageRecord). m.original_destination) e), ap (λ (m : MessageRecord). m.time) e), ap (λ (m : MessageRecord). m.payload) e)),
     )
 
+-- of two contents
 pub same_content-Decides : (a b : Content) → Decides (same_content a b) (a ≡ b)
 same_content-Decides (Value input publication value) (Value input' publication' value') =
     let all = Decides-and _ _ (Decides-and _ _ (Decides-eqb input input') (same_end-Decides publication publication')) (same_value-Decides value value') in
@@ -38,6 +41,7 @@ same_content-Decides (Value input publication value) (Value input' publication' 
 same_content-Decides (Message a) (Message b) = let d = same_message-Decides a b in ((λ t. ap Message (d.0 t)), (λ e. d.1 (cc)))
 same_content-Decides a b = ((λ t. absurd (false≢true t)), (λ e. cc))
 
+-- of two items
 pub same_parcel-Decides : (i j : Parcel) → Decides (same_parcel i j) (i ≡ j)
 same_parcel-Decides i j =
     let numbers = Decides-and _ _ (Decides-and _ _ (Decides-eqb i.source j.source) (Decides-eqb i.seq j.seq)) (Decides-eqb i.target j.target) in

@@ -1,6 +1,7 @@
 ghost use Rattle.std.specs.Prelude.{◌≡◌, ◌≤◌, ◌↔◌, true, false, List, [], length, filter, count_by, insert, take, IsTrue, IsNone, IfOk, IfErr, IfSome, OnOk, OnErr, option_copied};
 ghost use Rattle.hel_lists.specs.Members.{IsIn, Each};
-ghost use Rattle.helics_time.specs.Stamp.{at_most};
+ghost use Rattle.std.specs.Option.{ForSome};
+ghost use Rattle.helics_time.specs.Stamp.{IsDue, at_most};
 ghost use Rattle.due_queue.specs.Item.{Parcel, is_due, is_made_by};
 ghost use Rattle.due_queue.specs.Order.{InDueOrder, enqueue};
 ghost use Rattle.due_queue.specs.Queue.{IsPutIn, TakesDue, first_due, is_first_due, is_made_otherwise};
@@ -23,13 +24,13 @@ pub struct DueQueue {
 impl Model for DueQueue {
     ghost use Rattle.std.specs.Prelude.{List};
     ghost use Rattle.due_queue.specs.Item.{Parcel};
-    ghost use Rattle.due_queue.specs.Order.{InDueOrder};
+    ghost use Rattle.due_queue.specs.Queue.{IsQueue};
 
     ghost Value = { List Parcel };
 
     ghost view = { λ q. q.items.items };
 
-    ghost invariant = { λ q. InDueOrder q.items.items };
+    ghost invariant = { λ q. IsQueue q.items.items };
 }
 
 impl DueQueue {
@@ -50,6 +51,7 @@ impl DueQueue {
         ensures handed_back { IfErr result (λ back. back ≡ item) }
         ensures err { OnErr result (self.new ≡ self.old) }
     {
+        let _ = &item.due;
         let place = place_behind(&self.items, &item);
         match self.items.insert(place, item) {
             Ok(()) => Ok(()),
@@ -61,6 +63,8 @@ impl DueQueue {
     pub fn least(&self) -> Option<Stamp>
         ensures first { result ≡ first_due self.now }
         ensures least { IfSome result (λ due. Each (λ i. at_most due i.due ≡ true) self.now) }
+        ensures bounds { ForSome result IsDue }
+        ensures dues { Each (λ i. IsDue i.due) self.now }
     {
         self.items.front().map(|item| item.due)
     }

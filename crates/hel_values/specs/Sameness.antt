@@ -8,6 +8,7 @@ use Rattle.hel_values.specs.declared.Value.{Value}
 use Rattle.hel_values.specs.declared.Value.TheVariants.{Int, Text, Bytes}
 use Rattle.hel_values.specs.Values.{same_value}
 
+-- of two values
 pub same_value-Decides : (v w : Value) → Decides (same_value v w) (v ≡ w)
 same_value-Decides (Int n) (Int m) = let d = Decides-int_eq n m in ((λ t. ap Int (d.0 t)), (λ e. d.1 (cc)))
 same_value-Decides (Text t) (Text u) = let d = bytes_eq-Decides t u in ((λ h. ap Text (d.0 h)), (λ e. d.1 (cc)))

@@ -17,6 +17,7 @@ held v updated (applies w ∷ calls) = longer (applied calls) (run (record { val
     longer values (Some u) found = (v ∷ found.0, ap (λ (l : List Value). v ∷ l) found.1)
 held v updated (starts_grant ∷ calls) = held v false calls
 
+-- where the input held none, it holds the last of the values applied, if there are any
 last_applied : (updated : Bool) (calls : List Call) → IsLast (applied calls) (run (record { value = None; updated = updated }) calls).value
 last_applied updated [] = refl
 last_applied updated (applies v ∷ calls) = held v true calls
@@ -40,10 +41,12 @@ stays_marked s [] holds each = holds
 stays_marked s (applies v ∷ calls) holds each = stays_marked (after s (applies v)) calls refl (λ call among. each call (inr among))
 stays_marked s (starts_grant ∷ calls) holds each = absurd (each starts_grant (inl refl) refl)
 
+-- a value that was applied with no grant behind it marks
 marks : (s : Input) (front : List Call) (v : Value) (back : List Call) → Each (λ call. call ≢ starts_grant) back → (run s (front ++ applies v ∷ back)).updated ≡ true
 marks s [] v back each = stays_marked (after s (applies v)) back refl each
 marks s (call ∷ front) v back each = marks (after s call) front v back each
 
+-- the laws of inputs
 pub input_laws : InputLaws
 input_laws = record {
   value = last_applied false;
