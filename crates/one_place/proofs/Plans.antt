@@ -1,5 +1,5 @@
 -- Plans of names have what the laws of runs need, and accepted steps are runs of them.
-use Rattle.std.proofs.Common.{◌≡◌, ◌≤◌, ◌^◌, ℕ, zero, suc, List, [], ◌∷◌, inl, inr, refl, sym, ap, subst, arith}
+use Rattle.std.proofs.Common.{◌≤◌, ℕ, zero, suc, List, [], ◌∷◌, inl, inr, refl, sym, ap, subst, arith}
 use Rattle.std.specs.Prelude.{map, slice_index_or}
 use Rattle.helics_time.specs.Stamp.{At, IsStamp, next_of, rank}
 use Rattle.helics_time.specs.Settings.{Terms, IsTerms}
@@ -95,5 +95,5 @@ reference_runs names scripts logs each has =
     let w : Play = opening_play p in
     let began : IsRun p (opening p) (begin ∷ []) w.state = ((refl, tt), refl) in
     let run = moves_run p (plays_of scripts) w has.end has.feds plan (times_of scripts each) (runs_keep p (begin ∷ []) w.state plan began)
-      (reference_moves p (plays_of scripts) w has.end has.feds has.run) in
+    (reference_moves p (plays_of scripts) w has.end has.feds has.run) in
     (begin ∷ run.0, has.end.state, ((refl, tt), run.1), has.logs_are)

@@ -1,7 +1,7 @@
 // Laws of plans and of the machine's steps.
 ghost use Rattle.one_place.specs.Laws.{NamesPlan, StepsRun, ReferenceRuns};
 
-/// Whatever the names, a plan has all that the laws of runs need: docs/RULES.md, Plans.
+/// Whatever the names, a plan has all that the laws of runs need: docs/RULES.md, Grants.
 pub fn plan_laws()
     ensures { NamesPlan }
 {}

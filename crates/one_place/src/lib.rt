@@ -16,3 +16,6 @@ pub use machine_laws::{CallRefusal, FedLog, LogEnd, LogEntry, Logs, Unlawful};
 pub use plan::{Action, Plan, Scenario, Script};
 pub use run::reference;
 pub use step::MachineStep;
+
+#[cfg(test)]
+mod tests;

@@ -62,7 +62,7 @@ impl Machine {
     }
 
     /// Gives up the machine for its logs.
-    pub fn into_logs(self) -> Logs
+    pub(crate) fn into_logs(self) -> Logs
         ensures { result.feds ≡ logs_of self.state }
     {
         let Machine {

@@ -59,12 +59,12 @@ pub fn grant(alloc: Global, clock: &mut Clock, log: &mut FedLog) -> Result<(), O
     ensures same_clock { OnErr result (clock.new ≡ clock.old) }
     ensures same_log { OnErr result (log.new ≡ log.old) }
 {
-    let grant = clock.time.next_grant(None);
+    let stamp = clock.time.event(None);
     log.entries.push(LogEntry {
-        grant,
+        grant: clock.time.next_grant_at(stamp),
         items: Items::new(alloc),
     })?;
-    clock.time.grant(None);
+    clock.time.grant_at(stamp);
     log.end = LogEnd::Open(Phase::Running);
     Ok(())
 }
