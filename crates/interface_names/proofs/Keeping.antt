@@ -15,9 +15,9 @@ use Rattle.interface_names.specs.declared.records.FederateRecord.{FederateRecord
 use Rattle.interface_names.specs.declared.registry.RegistryRefusal.{RegistryRefusal}
 use Rattle.interface_names.specs.declared.registry.RegistryRefusal.TheVariants.{TooManyFederates, BadName, DuplicateFederate, TooManyInterfaces, DuplicateName}
 use Rattle.interface_names.specs.Limits.{most_federates, most_interfaces}
-use Rattle.interface_names.specs.GlobalName.{number_of, is_same, stands_in, first_double}
+use Rattle.interface_names.specs.GlobalName.{number_of, is_same, stands_in, first_duplicate}
 use Rattle.interface_names.specs.Federate.{names_of, has_bad_name, interface_count}
-use Rattle.interface_names.specs.Registry.{all_names, has_federate, plain_refusal_of, double_name_of, refusal_of, IsRegistry}
+use Rattle.interface_names.specs.Registry.{all_names, has_federate, plain_refusal_of, duplicate_refusal_of, refusal_of, IsRegistry}
 
 -- where none passes the test, the one at a place doesn't
 none_passes : {X : Type 0} (p : X → Bool) (xs : List X) (k : ℕ) (d : X) → list_any p xs ≡ false → k < length xs → p (get_or xs k d) ≡ false
@@ -38,16 +38,16 @@ same_itself n =
     let names : bytes_eq n.name n.name ≡ true = (bytes_eq-Decides n.name n.name).1 refl in
     ap (λ (b : Bool). b && bytes_eq n.name n.name) kinds ∙ names
 
--- names of which each stands once, with new ones of which none is a double
-once_more : (names new : List GlobalName) → AllPairs ◌≢◌ names → first_double names new ≡ None → AllPairs ◌≢◌ (names ++ new)
+-- names of which each stands once, with new ones of which none is a duplicate
+once_more : (names new : List GlobalName) → AllPairs ◌≢◌ names → first_duplicate names new ≡ None → AllPairs ◌≢◌ (names ++ new)
 once_more names [] once none = subst (AllPairs ◌≢◌) (sym (append-nil names)) once
 once_more names (x ∷ xs) once none = elim (cases_Bool (stands_in names x)) [
   | inl stands ↦
-      let found : Some x ≡ None = sym (ap (λ (b : Bool). if b then Some x else first_double (names ++ x ∷ []) xs) stands) ∙ none in
+      let found : Some x ≡ None = sym (ap (λ (b : Bool). if b then Some x else first_duplicate (names ++ x ∷ []) xs) stands) ∙ none in
       absurd (cc)
   | inr new ↦
-      let rest : first_double (names ++ x ∷ []) xs ≡ None =
-      sym (ap (λ (b : Bool). if b then Some x else first_double (names ++ x ∷ []) xs) new) ∙ none in
+      let rest : first_duplicate (names ++ x ∷ []) xs ≡ None =
+      sym (ap (λ (b : Bool). if b then Some x else first_duplicate (names ++ x ∷ []) xs) new) ∙ none in
       let apart : (k : ℕ) (d : GlobalName) → k < length names → get_or names k d ≢ x = λ k d below same.
       true≢false (sym (same_itself x) ∙ ap (is_same x) (sym same) ∙ none_passes (is_same x) names k d new below) in
       subst (AllPairs ◌≢◌) (append_assoc names (x ∷ []) xs)
@@ -60,21 +60,21 @@ record Passes (federates : List FederateRecord) (f : FederateRecord) : Type 0 wh
   no_bad_name : has_bad_name f ≡ false
   new : has_federate federates f.name ≡ false
   few_interfaces : nat_lt most_interfaces (interface_count f) ≡ false
-  no_double : double_name_of federates f ≡ None
+  no_duplicate : first_duplicate (all_names federates) (names_of f) ≡ None
 
 passes : (federates : List FederateRecord) (f : FederateRecord) → refusal_of federates f ≡ None → Passes federates f
 passes federates f none =
     go (nat_le most_federates (length federates)) (has_bad_name f) (has_federate federates f.name)
-    (nat_lt most_interfaces (interface_count f)) (double_name_of federates f) refl refl refl refl refl none
+    (nat_lt most_interfaces (interface_count f)) (first_duplicate (all_names federates) (names_of f)) refl refl refl refl refl none
   where
-    go : (full bad taken many : Bool) (double : Option GlobalName)
+    go : (full bad taken many : Bool) (duplicate : Option GlobalName)
         → nat_le most_federates (length federates) ≡ full → has_bad_name f ≡ bad → has_federate federates f.name ≡ taken
-        → nat_lt most_interfaces (interface_count f) ≡ many → double_name_of federates f ≡ double
+        → nat_lt most_interfaces (interface_count f) ≡ many → first_duplicate (all_names federates) (names_of f) ≡ duplicate
         → option_or (if full then Some TooManyFederates else (if bad then Some BadName else (if taken then Some DuplicateFederate
-        else (if many then Some TooManyInterfaces else None)))) (option_map (λ name. DuplicateName name.name) double) ≡ None
+        else (if many then Some TooManyInterfaces else None)))) (option_map (λ duplicate. DuplicateName duplicate.name) duplicate) ≡ None
         → Passes federates f
-    go false false false false None a b c d e h = record { room = a; no_bad_name = b; new = c; few_interfaces = d; no_double = e }
-    go full bad taken many double a b c d e h = absurd (cc)
+    go false false false false None a b c d e h = record { room = a; no_bad_name = b; new = c; few_interfaces = d; no_duplicate = e }
+    go full bad taken many duplicate a b c d e h = absurd (cc)
 
 -- its names come behind those of the others
 names_with : (federates : List FederateRecord) (f : FederateRecord) → all_names (federates ++ f ∷ []) ≡ all_names federates ++ names_of f
@@ -94,19 +94,18 @@ keeps_with federates f was none =
       no_bad_name = All-append (λ g. has_bad_name g ≡ false) federates (f ∷ []) was.no_bad_name (all_one (λ g. has_bad_name g ≡ false) f p.no_bad_name);
       few_interfaces = All-append (λ g. interface_count g ≤ most_interfaces) federates (f ∷ []) was.few_interfaces (all_one (λ g. interface_count g ≤ most_interfaces) f few);
       federates_once = all_pairs_push (λ g h. g.name ≢ h.name) federates f was.federates_once apart;
-      names_once = subst (AllPairs ◌≢◌) (sym (names_with federates f)) (once_more (all_names federates) (names_of f) was.names_once p.no_double);
+      names_once = subst (AllPairs ◌≢◌) (sym (names_with federates f)) (once_more (all_names federates) (names_of f) was.names_once p.no_duplicate);
     }
 
 -- so does a registry with its table of names
 pub keeps_table : (federates federates' : List FederateRecord) (f : FederateRecord) (names new names' : List GlobalName)
-    → IsRegistry federates × (names ≡ all_names federates) → plain_refusal_of federates f ≡ None → new ≡ names_of f → first_double names new ≡ None
+    → IsRegistry federates × (names ≡ all_names federates) → plain_refusal_of federates f ≡ None → new ≡ names_of f → duplicate_refusal_of names new ≡ None
     → federates' ≡ federates ++ f ∷ [] → names' ≡ names ++ new → IsRegistry federates' × (names' ≡ all_names federates')
 keeps_table federates federates' f names new names' was plain new_is fresh federates_are names_are =
-    let no_double : double_name_of federates f ≡ None =
-    ap (first_double (all_names federates)) (sym new_is) ∙ ap (λ (ns : List GlobalName). first_double ns new) (sym was.1) ∙ fresh in
+    let no_duplicate : duplicate_refusal_of (all_names federates) (names_of f) ≡ None =
+    ap (duplicate_refusal_of (all_names federates)) (sym new_is) ∙ ap (λ (ns : List GlobalName). duplicate_refusal_of ns new) (sym was.1) ∙ fresh in
     let none : refusal_of federates f ≡ None =
-    ap (λ (o : Option RegistryRefusal). option_or o (option_map (λ double. DuplicateName double.name) (double_name_of federates f))) plain
-    ∙ ap (λ (o : Option GlobalName). option_map (λ double. DuplicateName double.name) o) no_double in (
+    ap (λ (o : Option RegistryRefusal). option_or o (duplicate_refusal_of (all_names federates) (names_of f))) plain ∙ no_duplicate in (
       subst IsRegistry (sym federates_are) (keeps_with federates f was.0 none),
       names_are ∙ ap (λ (ns : List GlobalName). ns ++ new) was.1 ∙ ap (λ (ns : List GlobalName). all_names federates ++ ns) new_is
           ∙ sym (names_with federates f) ∙ ap all_names (sym federates_are),

@@ -22,7 +22,7 @@ abbrev pub stands_in : List GlobalName → GlobalName → Bool
 stands_in names name = list_any (is_same name) names
 
 -- the first of the names that stands among those before it, the earlier ones and its own
-abbrev pub first_double : List GlobalName → List GlobalName → Option GlobalName
-first_double earlier [] = None
-first_double earlier (name ∷ names) =
-    if stands_in earlier name then Some name else first_double (earlier ++ name ∷ []) names
+abbrev pub first_duplicate : List GlobalName → List GlobalName → Option GlobalName
+first_duplicate earlier [] = None
+first_duplicate earlier (name ∷ names) =
+    if stands_in earlier name then Some name else first_duplicate (earlier ++ name ∷ []) names

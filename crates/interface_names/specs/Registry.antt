@@ -8,7 +8,7 @@ use Rattle.interface_names.specs.declared.records.FederateRecord.{FederateRecord
 use Rattle.interface_names.specs.declared.registry.RegistryRefusal.{RegistryRefusal}
 use Rattle.interface_names.specs.declared.registry.RegistryRefusal.TheVariants.{TooManyFederates, BadName, DuplicateFederate, TooManyInterfaces, DuplicateName, OutOfMemory}
 use Rattle.interface_names.specs.Limits.{most_federates, most_interfaces}
-use Rattle.interface_names.specs.GlobalName.{first_double}
+use Rattle.interface_names.specs.GlobalName.{first_duplicate}
 use Rattle.interface_names.specs.Federate.{names_of, has_bad_name, interface_count}
 
 -- the names of all interfaces, federate by federate
@@ -28,13 +28,13 @@ plain_refusal_of federates f =
     else (if nat_lt most_interfaces (interface_count f) then Some TooManyInterfaces
     else None)))
 
--- the first of its names that stands among those before it
-abbrev pub double_name_of : List FederateRecord → FederateRecord → Option GlobalName
-double_name_of federates f = first_double (all_names federates) (names_of f)
+-- the reason to refuse names that come behind others: the first that stands among those before it
+abbrev pub duplicate_refusal_of : List GlobalName → List GlobalName → Option RegistryRefusal
+duplicate_refusal_of earlier names = option_map (λ duplicate. DuplicateName duplicate.name) (first_duplicate earlier names)
 
 -- the first reason to refuse a federate
 abbrev pub refusal_of : List FederateRecord → FederateRecord → Option RegistryRefusal
-refusal_of federates f = option_or (plain_refusal_of federates f) (option_map (λ double. DuplicateName double.name) (double_name_of federates f))
+refusal_of federates f = option_or (plain_refusal_of federates f) (duplicate_refusal_of (all_names federates) (names_of f))
 
 -- what `add` may answer: the next number where there is no reason to refuse, the first reason, and for want of memory
 -- nothing of it, where no plain reason stands

@@ -1,9 +1,7 @@
 ghost use Rattle.std.specs.Prelude.{◌≡◌, ◌++◌, ◌⊎◌, ◌<◌, [], None, Some, length, take, slice_index_or, IfOk, IfErr, OnOk, OnErr};
-ghost use Rattle.std.specs.Option.{option_map};
-ghost use Rattle.interface_names.specs.declared.registry.RegistryRefusal.TheVariants.{DuplicateName, OutOfMemory as NoMemory};
+ghost use Rattle.interface_names.specs.declared.registry.RegistryRefusal.TheVariants.{OutOfMemory as NoMemory};
 ghost use Rattle.interface_names.specs.Federate.{names_of, has_bad_name, interface_count};
-ghost use Rattle.interface_names.specs.GlobalName.{first_double};
-ghost use Rattle.interface_names.specs.Registry.{all_names, has_federate, plain_refusal_of, Answers, added, IsRegistry};
+ghost use Rattle.interface_names.specs.Registry.{all_names, has_federate, plain_refusal_of, duplicate_refusal_of, Answers, added, IsRegistry};
 
 use crate::names::{GlobalName, InterfaceKind, has_bad, is_bad, push_names};
 use crate::records::FederateRecord;
@@ -204,9 +202,9 @@ fn names_of_federate(
 
 // Puts all names behind those of a table, or none where one stands among those before it.
 fn enter(table: &mut IndexSet<GlobalName>, names: Vec<GlobalName>) -> Result<(), RegistryRefusal>
-    ensures fresh { OnOk result (first_double table.old.keys names.items ≡ None) }
+    ensures fresh { OnOk result (duplicate_refusal_of table.old.keys names.items ≡ None) }
     ensures ok { OnOk result (table.new.keys ≡ table.old.keys ++ names.items) }
-    ensures double { IfErr result (λ refusal. (refusal ≡ NoMemory) ⊎ (option_map (λ name. DuplicateName name.name) (first_double table.old.keys names.items) ≡ Some refusal)) }
+    ensures duplicate { IfErr result (λ refusal. (refusal ≡ NoMemory) ⊎ (duplicate_refusal_of table.old.keys names.items ≡ Some refusal)) }
     ensures err { OnErr result (table.new.keys ≡ table.old.keys) }
 {
     let before = table.len();
@@ -222,9 +220,9 @@ fn enter_each(
     table: &mut IndexSet<GlobalName>,
     names: Vec<GlobalName>,
 ) -> Result<(), RegistryRefusal>
-    ensures fresh { OnOk result (first_double table.old.keys names.items ≡ None) }
+    ensures fresh { OnOk result (duplicate_refusal_of table.old.keys names.items ≡ None) }
     ensures ok { OnOk result (table.new.keys ≡ table.old.keys ++ names.items) }
-    ensures double { IfErr result (λ refusal. (refusal ≡ NoMemory) ⊎ (option_map (λ name. DuplicateName name.name) (first_double table.old.keys names.items) ≡ Some refusal)) }
+    ensures duplicate { IfErr result (λ refusal. (refusal ≡ NoMemory) ⊎ (duplicate_refusal_of table.old.keys names.items ≡ Some refusal)) }
     ensures kept { take (length table.old.keys) table.new.keys ≡ table.old.keys }
 {
     table.reserve(names.len())?;

@@ -1,4 +1,4 @@
-ghost use Rattle.std.specs.Prelude.{◌≡◌, ◌<◌, ◌↔◌, [], ◌∷◌, ◌++◌, length, IsOk, OnOk, OnErr};
+ghost use Rattle.std.specs.Prelude.{◌≡◌, ◌<◌, ◌↔◌, [], ◌∷◌, ◌++◌, length, Ok, IsOk, OnOk, OnErr};
 ghost use Rattle.message_filters.specs.Chain.{filtered_of, KeepsBounds};
 ghost use Rattle.message_filters.specs.Limits.{most_filters};
 
@@ -100,7 +100,9 @@ impl Chain {
 }
 
 impl Copied for Chain {
-    fn copy(&self, _alloc: Global) -> Result<Self, OutOfMemory> {
+    fn copy(&self, _alloc: Global) -> Result<Self, OutOfMemory>
+        ensures { result ≡ Ok self.now }
+    {
         let mut copy = Chain::new();
         for filter in &self.filters[..self.len] {
             copy.put(*filter);
