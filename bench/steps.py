@@ -1,7 +1,9 @@
 #!/usr/bin/env python3
-"""Measures `sim` on one federate with many requests, at three sizes up to the limit of a file.
+"""Measures `sim` on one federate with many actions, at three sizes up to the limit of a file.
 
-Run it at any place: `python3 bench/steps.py`. It needs the built program (`./helics_run` builds it).
+Run it at any place: `python3 bench/steps.py`. It needs the built program (`./helics_run` builds it). It prints
+seconds of the processor (the least of several runs), peak memory and the exponents of growth, and ends with
+status 1 where the exponent of time or the peak passes its limit.
 """
 import json
 import math
@@ -13,58 +15,81 @@ import tempfile
 
 ROOT = pathlib.Path(__file__).resolve().parent.parent
 PROGRAM = ROOT / "crates/helics_run/out/helics_run"
-LIMIT = 16_777_216  # the greatest length of a file, in bytes
+FILE_LIMIT = 16_777_216  # the greatest length of a file, in bytes
+ACTION_LIMIT = 1_000_000  # the greatest number of actions
 FRACTIONS = (0.25, 0.5, 1.0)
+RUNS = 5
+EXPONENT_LIMIT = 1.2
+PEAK_LIMIT = 1024  # MiB
 
 
-def federate_file(most_bytes):
-    """The text of a federate file of at most so many bytes, and how many requests it has."""
+def requests(number):
+    return '{"do":"request","time":"%dns"}' % number
+
+
+def finishes(number):
+    return '{"do":"finish"}'
+
+
+def federate_file(action, most_bytes, most_actions):
+    """The text of a federate file within both limits, and how many actions it has."""
     head, tail = '{"name":"A","script":[', "]}"
     room = most_bytes - len(head) - len(tail)
-    parts, count = [], 0
-    while True:
-        part = ("," if parts else "") + '{"do":"request","time":"%dns"}' % (count + 1)
+    parts = []
+    while len(parts) < most_actions:
+        part = ("," if parts else "") + action(len(parts) + 1)
         if len(part) > room:
             break
         room -= len(part)
         parts.append(part)
-        count += 1
-    return head + "".join(parts) + tail, count
+    return head + "".join(parts) + tail, len(parts)
 
 
-def measure(folder, most_bytes):
-    """Seconds of the processor, peak memory in MiB, requests and bytes of the file."""
-    text, count = federate_file(most_bytes)
-    (folder / "a.json").write_text(text)
-    (folder / "run.json").write_text(json.dumps({"federates": [{"name": "A", "exec": "$self fed a.json"}]}))
+def run(folder, grants):
+    """Seconds of the processor and peak memory in MiB of one run, which prints so many grants."""
     out = folder / "out.txt"
     with open(out, "wb") as sink:
         child = subprocess.Popen([str(PROGRAM), "sim", str(folder / "run.json")], stdout=sink)
         _, status, usage = os.wait4(child.pid, 0)
     if os.waitstatus_to_exitcode(status) != 0:
         sys.exit("steps: the program ended with status %d" % os.waitstatus_to_exitcode(status))
-    grants = out.read_bytes().count(b"\ngrant ")
-    if grants != count + 1:
-        sys.exit("steps: %d grants for %d requests" % (grants, count))
-    return usage.ru_utime + usage.ru_stime, usage.ru_maxrss / 1024, count, len(text)
+    printed = out.read_bytes().count(b"\ngrant ")
+    if printed != grants:
+        sys.exit("steps: %d grants and not %d" % (printed, grants))
+    return usage.ru_utime + usage.ru_stime, usage.ru_maxrss / 1024
+
+
+def measure(name, action, grants_of, folder):
+    """Prints the three sizes of one shape, and answers whether they keep the limits."""
+    print("%s: actions   MiB of file   processor seconds   peak MiB" % name)
+    rows = []
+    for fraction in FRACTIONS:
+        text, count = federate_file(action, int(FILE_LIMIT * fraction), int(ACTION_LIMIT * fraction))
+        (folder / "a.json").write_text(text)
+        runs = [run(folder, grants_of(count)) for _ in range(RUNS)]
+        seconds, peak = min(r[0] for r in runs), max(r[1] for r in runs)
+        rows.append((count, seconds, peak))
+        print("%s  %8d   %11.1f   %17.2f   %8.0f" % (" " * len(name), count, len(text) / 2**20, seconds, peak))
+    growth = math.log(rows[-1][0] / rows[0][0])
+    exponent = math.log(rows[-1][1] / rows[0][1]) / growth
+    print("%s  exponent of time %.2f (limit %.1f), of memory %.2f; peak %.0f MiB (limit %d)" % (
+        " " * len(name), exponent, EXPONENT_LIMIT, math.log(rows[-1][2] / rows[0][2]) / growth, rows[-1][2], PEAK_LIMIT))
+    return exponent < EXPONENT_LIMIT and rows[-1][2] < PEAK_LIMIT
 
 
 def main():
     if not PROGRAM.is_file():
         print("steps: passed over, since the program isn't built; run ./helics_run once")
-        return
-    print("requests   MiB of file   seconds   peak MiB   ns a grant")
-    rows = []
+        return 0
     with tempfile.TemporaryDirectory() as name:
-        for fraction in FRACTIONS:
-            rows.append(measure(pathlib.Path(name), int(LIMIT * fraction)))
-            seconds, peak, count, size = rows[-1]
-            print("%8d   %11.1f   %7.2f   %8.0f   %10.0f" % (count, size / 2**20, seconds, peak, seconds / count * 1e9))
-    first, last = rows[0], rows[-1]
-    growth = math.log(last[2] / first[2])
-    print("exponent of time   %.2f" % (math.log(last[0] / first[0]) / growth))
-    print("exponent of memory %.2f" % (math.log(last[1] / first[1]) / growth))
+        folder = pathlib.Path(name)
+        (folder / "run.json").write_text(json.dumps({"federates": [{"name": "A", "exec": "$self fed a.json"}]}))
+        kept = [
+            measure("requests", requests, lambda count: count + 1, folder),
+            measure("finishes", finishes, lambda count: 1, folder),
+        ]
+    return 0 if all(kept) else 1
 
 
 if __name__ == "__main__":
-    main()
+    sys.exit(main())
