@@ -77,11 +77,12 @@ fn items_come_in_order_of_due_and_call(rt: HostRuntime) -> Result<(), Fail> {
     for row in CAME {
         assert!(rt; queue.put(item_of(row)).is_ok());
     }
-    let mut copies = Vec::new(rt.alloc());
-    for item in queue.due_copies(stamp(10, 1))?.as_slice() {
-        copies.push(number_of(item))?;
+    let due = [CAME[4], CAME[3], CAME[1], CAME[6], CAME[2], CAME[0]];
+    let copies = queue.due_copies(stamp(10, 1))?;
+    assert_eq!(rt; copies.len(), due.len());
+    for (copy, row) in copies.as_slice().iter().zip(due) {
+        assert!(rt; *copy == item_of(row), "{row:?}");
     }
-    assert_eq!(rt; copies.as_slice(), [5, 4, 2, 7, 3, 1].as_slice());
     assert_eq!(rt;
         numbers_taken(rt.alloc(), &mut queue, stamp(10, 0))?.as_slice(),
         [5].as_slice()

@@ -17,18 +17,24 @@ fn next_stamps(rt: HostRuntime) {
 #[test]
 fn bounds_of_settings(rt: HostRuntime) {
     let longest = 1 << 56;
+    let past = longest + 1;
     let cases = [
-        (longest, 1, true),
-        (longest, 10_000, true),
-        (longest + 1, 1, false),
-        (0, 0, false),
-        (0, 10_001, false),
+        ([longest, longest, longest, longest, longest], 1, true),
+        ([0, 0, 0, 0, 0], 10_000, true),
+        ([past, 0, 0, 0, 0], 1, false),
+        ([0, past, 0, 0, 0], 1, false),
+        ([0, 0, past, 0, 0], 1, false),
+        ([0, 0, 0, past, 0], 1, false),
+        ([0, 0, 0, 0, past], 1, false),
+        ([0, 0, 0, 0, 0], 0, false),
+        ([0, 0, 0, 0, 0], 10_001, false),
     ];
-    for (time, iterations, lawful) in cases {
-        let period = Settings::of(time, 0, 0, 0, 0, false, false, iterations);
-        assert_eq!(rt; period.is_some(), lawful, "period {time}, {iterations}");
-        let others = Settings::of(0, time, time, time, time, true, true, iterations);
-        assert_eq!(rt; others.is_some(), lawful, "others {time}, {iterations}");
+    for (times, iterations, fit) in cases {
+        let [period, offset, delta, input, output] = times;
+        let settings = Settings::of(
+            period, offset, delta, input, output, true, false, iterations,
+        );
+        assert_eq!(rt; settings.is_some(), fit, "{times:?} {iterations}");
     }
 }
 
