@@ -148,3 +148,6 @@ pub fn command<F: Files, O: Sink, E: Sink>(
         Err(Failure::OutOfMemory) => tell(err, Status::OutOfMemory, OUT_OF_MEMORY),
     }
 }
+
+#[cfg(test)]
+mod tests;
