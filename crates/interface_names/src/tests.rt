@@ -6,7 +6,7 @@ use helics_time::Settings;
 use std::alloc::Global;
 use std::test::Fail;
 
-// A federate with these interfaces. One with no name is unnamed, where its kind allows it.
+// A federate with these interfaces. One with the name "-" is unnamed, where its kind allows it.
 fn federate(
     alloc: Global,
     name: &str,
@@ -41,7 +41,7 @@ fn push(
             kind: ValueKind::Int,
         })?,
         Input => record.inputs.push(InputRecord {
-            name: if name.is_empty() { None } else { Some(text) },
+            name: if name == "-" { None } else { Some(text) },
             global,
             kind: None,
             targets: Items::new(alloc),
@@ -56,7 +56,7 @@ fn push(
             source_targets: Items::new(alloc),
         })?,
         Filter => record.filters.push(FilterRecord {
-            name: if name.is_empty() { None } else { Some(text) },
+            name: if name == "-" { None } else { Some(text) },
             source_of: Items::new(alloc),
             destination_of: Items::new(alloc),
             kind: FilterKind::Delay(1),
@@ -78,74 +78,57 @@ fn answer(
     Ok(format!(in alloc; "{answered:?}")?)
 }
 
+// A federate's name, two interfaces, and what a registry answers that has taken all before.
+type Case = (
+    &'static str,
+    [(InterfaceKind, &'static str, bool); 2],
+    &'static str,
+);
+
+const CASES: [Case; 16] = [
+    ("F", [(Publication, "k", false), (Endpoint, "k", false)], "Ok(0)"),
+    ("", [(Publication, "a", false), (Input, "a", false)], "Err(BadName)"),
+    ("G\u{1f}", [(Publication, "a", false), (Input, "a", false)], "Err(BadName)"),
+    ("G\u{7f}", [(Publication, "a", false), (Input, "a", false)], "Err(BadName)"),
+    ("G", [(Publication, "", false), (Input, "a", false)], "Err(BadName)"),
+    ("G", [(Publication, "a", false), (Input, "", false)], "Err(BadName)"),
+    ("G", [(Filter, "", true), (Input, "a", false)], "Err(BadName)"),
+    ("F", [(Filter, "a", false), (Input, "\n", false)], "Err(BadName)"),
+    ("F", [(Publication, "F/k", true), (Input, "-", false)], "Err(DuplicateFederate)"),
+    ("G", [(Publication, "k", true), (Publication, "k", true)], "Err(DuplicateName(Text { text: \"k\" }))"),
+    ("G", [(Endpoint, "k", true), (Endpoint, "F/k", true)], "Err(DuplicateName(Text { text: \"F/k\" }))"),
+    ("G", [(Filter, "k", false), (Filter, "k", true)], "Err(DuplicateName(Text { text: \"G/k\" }))"),
+    ("G", [(Publication, "k", true), (Input, "F/k", true)], "Ok(1)"),
+    ("H ~\u{80}", [(Input, "-", true), (Input, "-", true)], "Ok(2)"),
+    ("I", [(Filter, "-", false), (Filter, "-", false)], "Ok(3)"),
+    ("I", [(Filter, "x", false), (Filter, "x", false)], "Err(DuplicateFederate)"),
+];
+
 #[test]
 fn federates_are_numbered_or_refused(rt: HostRuntime) -> Result<(), Fail> {
     let mut registry = Registry::new(rt.alloc());
-    for (name, interfaces, told) in [
-        (
-            "F",
-            [(Publication, "k", false), (Endpoint, "k", false)],
-            "Ok(0)",
-        ),
-        (
-            "",
-            [(Publication, "a", false), (Input, "a", false)],
-            "Err(BadName)",
-        ),
-        (
-            "G\u{1f}",
-            [(Publication, "a", false), (Input, "a", false)],
-            "Err(BadName)",
-        ),
-        (
-            "G\u{7f}",
-            [(Publication, "a", false), (Input, "a", false)],
-            "Err(BadName)",
-        ),
-        (
-            "G",
-            [(Publication, "", false), (Input, "a", false)],
-            "Err(BadName)",
-        ),
-        (
-            "F",
-            [(Filter, "a", false), (Input, "\n", false)],
-            "Err(BadName)",
-        ),
-        (
-            "F",
-            [(Publication, "F/k", true), (Input, "", false)],
-            "Err(DuplicateFederate)",
-        ),
-        (
-            "G",
-            [(Publication, "k", true), (Publication, "k", true)],
-            "Err(DuplicateName(Text { text: \"k\" }))",
-        ),
-        (
-            "G",
-            [(Endpoint, "k", true), (Endpoint, "F/k", true)],
-            "Err(DuplicateName(Text { text: \"F/k\" }))",
-        ),
-        (
-            "G",
-            [(Filter, "k", false), (Filter, "k", true)],
-            "Err(DuplicateName(Text { text: \"G/k\" }))",
-        ),
-        (
-            "G",
-            [(Publication, "k", true), (Input, "F/k", true)],
-            "Ok(1)",
-        ),
-        ("H ~\u{80}", [(Input, "", true), (Input, "", true)], "Ok(2)"),
-        ("I", [(Filter, "", false), (Filter, "", false)], "Ok(3)"),
-    ] {
-        let answered = answer(&mut registry, rt.alloc(), name, &interfaces)?;
-        assert_eq!(rt; answered.as_str(), told, "{name}");
+    for (name, interfaces, told) in &CASES {
+        let answered = answer(&mut registry, rt.alloc(), name, interfaces)?;
+        assert_eq!(rt; answered.as_str(), *told, "{name}");
     }
     assert_eq!(rt; registry.len(), 4);
-    let second = registry.federate(1);
-    assert_eq!(rt; second.name.as_str(), "G");
+    assert_eq!(rt; registry.federate(1).name.as_str(), "G");
+    Ok(())
+}
+
+#[test]
+fn copies_are_equal_and_names_global(rt: HostRuntime) -> Result<(), Fail> {
+    let record = federate(
+        rt.alloc(),
+        "F",
+        &[(Publication, "p", true), (Input, "-", false), (Endpoint, "e", false), (Filter, "f", false)],
+    )?;
+    let copy = record.copy(rt.alloc())?;
+    assert_eq!(rt; format!(in rt.alloc(); "{copy:?}")?, format!(in rt.alloc(); "{record:?}")?);
+    for (name, global, told) in [("k", false, "F/k"), ("k", true, "k"), ("", false, "F/")] {
+        let given = global_name(rt.alloc(), "F", name, global)?;
+        assert_eq!(rt; given.as_str(), told);
+    }
     Ok(())
 }
 
