@@ -1,6 +1,6 @@
 -- Moves of scripted federates are lawful steps, and those of two federates commute.
-use Rattle.std.proofs.Common.{◌≡◌, ◌≢◌, ◌⊎◌, inl, inr, ℕ, ◌+◌, ◌<◌, Bool, true, false, refl, sym, ◌∙◌, ap, subst, List, [], ◌∷◌, length, get_or, set, Option, Some, None}
-use Rattle.std.specs.Prelude.{if◌then◌else◌, option_map}
+use Rattle.std.proofs.Common.{◌≡◌, ◌≢◌, ◌⊎◌, inl, inr, ℕ, suc, ◌+◌, ◌<◌, Bool, true, false, refl, sym, ◌∙◌, ap, subst, List, [], ◌∷◌, ◌++◌, length, get_or, set, Option, Some, None}
+use Rattle.std.specs.Prelude.{if◌then◌else◌, option_map, option_to_list, unwrap_or}
 use Rattle.std.proofs.lemmas.Bool.{cases_lt, false≢true}
 use Rattle.std.proofs.lemmas.List.{get_or-set_other, set_comm, get_or_past}
 use Rattle.time_state.specs.Fed.{is_asking}
@@ -14,7 +14,7 @@ use Rattle.machine_laws.specs.Plan.{Plan, IsPlan}
 use Rattle.machine_laws.specs.Machine.{Member, State, Step, member_at, blank_member, end_refusal, if_refused, refusal_of, KeepsTime, IsLawful, after, IsRun}
 use Rattle.machine_laws.specs.Machine.Step.{grant}
 use Rattle.machine_laws.specs.Laws.{Keeps}
-use Rattle.machine_laws.specs.Moves.{Doing, step_by, Scripts, Play, calls_of, doing_refusal, or_failure, call_by, in_turn, if_lawful, next_step, is_call, moved, move, KeepsTimes, Diamond, MovesRun}
+use Rattle.machine_laws.specs.Moves.{Doing, step_by, Scripts, Play, calls_of, doing_refusal, or_failure, call_by, in_turn, if_lawful, next_step, is_call, moved, move, KeepsTimes, Diamond, steps_of_moves, MovesRun}
 use Rattle.machine_laws.specs.Moves.Doing.{enters, makes, requests, finishes, fails}
 use Rattle.machine_laws.proofs.Accepted.{known_is}
 use Rattle.machine_laws.proofs.CallGrant.{call_grant}
@@ -232,10 +232,21 @@ move_keeps p scripts f w a plan times keeps e =
     let x = moved_is p scripts f w a e in
     subst (λ (v : Play). Keeps p v.state) (sym x.is) (keeps_step p w.state x.step plan keeps (chosen_is p scripts w f x.step times x.choice).lawful)
 
+-- the steps of a move and those behind it
+steps_next : (p : Plan) (scripts : Scripts) (w next : Play) (f : ℕ) (fs : List ℕ) (step : Step) → next_step p scripts w f ≡ Some step → move p scripts f w ≡ Some next →
+    steps_of_moves p scripts w (f ∷ fs) ≡ step ∷ steps_of_moves p scripts next fs
+steps_next p scripts w next f fs step choice moves =
+    ap (λ (o : Option Step). option_to_list o ++ steps_of_moves p scripts (unwrap_or (move p scripts f w) w) fs) choice
+    ∙ ap (λ (o : Option Play). step ∷ steps_of_moves p scripts (unwrap_or o w) fs) moves
+
 pub moves_run : MovesRun
-moves_run p scripts w end [] plan times keeps moves = ([], ap (λ (v : Play). v.state) moves)
+moves_run p scripts w end [] plan times keeps moves = (ap (λ (v : Play). v.state) moves, refl)
 moves_run p scripts w end (f ∷ fs) plan times keeps moves =
     let x = moved_is p scripts f w moves.0 moves.1 in
     let choice = chosen_is p scripts w f x.step times x.choice in
     let rest = moves_run p scripts moves.0 end fs plan times (move_keeps p scripts f w moves.0 plan times keeps moves.1) moves.2 in
-    (x.step ∷ rest.0, (choice.lawful, subst (λ (v : Play). IsRun p v.state rest.0 end.state) x.is rest.1))
+    let more : List Step = steps_of_moves p scripts moves.0 fs in
+    let all : steps_of_moves p scripts w (f ∷ fs) ≡ x.step ∷ more = steps_next p scripts w moves.0 f fs x.step x.choice moves.1 in (
+      subst (λ (steps : List Step). IsRun p w.state steps end.state) (sym all) (choice.lawful, subst (λ (v : Play). IsRun p v.state more end.state) x.is rest.0),
+      ap (λ (steps : List Step). length steps) all ∙ ap suc rest.1,
+    )

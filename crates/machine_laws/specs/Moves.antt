@@ -1,5 +1,5 @@
 -- The machine of scripted federates, and its moves.
-use Rattle.std.specs.Prelude.{ℕ, ◌+◌, ◌<◌, ◌≡◌, ◌≢◌, Bool, true, false, if◌then◌else◌, List, [], ◌∷◌, slice_index_or, slice_set, Option, Some, None, option_map, map}
+use Rattle.std.specs.Prelude.{ℕ, ◌+◌, ◌<◌, ◌≡◌, ◌≢◌, Bool, true, false, if◌then◌else◌, List, [], ◌∷◌, ◌++◌, length, slice_index_or, slice_set, Option, Some, None, option_map, option_to_list, unwrap_or, map}
 use Rattle.helics_time.specs.Settings.{Terms}
 use Rattle.iteration_rules.specs.declared.Mode.{Mode}
 use Rattle.time_state.specs.Fed.{enter_refusal, request_refusal}
@@ -124,10 +124,15 @@ abbrev pub OneAnswer : Type 0
 OneAnswer = (p : Plan) (scripts : Scripts) (a b : Play) (fs gs : List ℕ) → IsPlan p → KeepsTimes scripts →
     Moves p scripts (opening_play p) fs a → IsStill p scripts a → Moves p scripts (opening_play p) gs b → IsStill p scripts b → a ≡ b
 
--- Moves are lawful steps, so the laws of runs hold of them.
+-- the steps that these federates take, one after another; one that may not move takes none
+abbrev pub steps_of_moves : Plan → Scripts → Play → List ℕ → List Step
+steps_of_moves p scripts w [] = []
+steps_of_moves p scripts w (f ∷ fs) = option_to_list (next_step p scripts w f) ++ steps_of_moves p scripts (unwrap_or (move p scripts f w) w) fs
+
+-- The steps of moves, one of each, are a run to the same end, so the laws of runs hold of them.
 abbrev pub MovesRun : Type 0
 MovesRun = (p : Plan) (scripts : Scripts) (w end : Play) (fs : List ℕ) → IsPlan p → KeepsTimes scripts → Keeps p w.state → Moves p scripts w fs end →
-    (steps : List Step) × IsRun p w.state steps end.state
+    IsRun p w.state (steps_of_moves p scripts w fs) end.state × (length (steps_of_moves p scripts w fs) ≡ length fs)
 
 -- the least federate that may move moves, until none may
 abbrev pub IsReference : Plan → Scripts → Play → List ℕ → Play → Type 0

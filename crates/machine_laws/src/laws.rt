@@ -56,7 +56,8 @@ pub fn first_laws()
     ensures { FirstLaws }
 {}
 
-/// Moves of scripted federates are lawful steps, so these laws hold of them: docs/RULES.md, Scripts.
+/// The steps of moves of scripted federates, in order, are lawful, and lead to the same end. So these laws hold
+/// of them: docs/RULES.md, Scripts.
 pub fn moves_run()
     ensures { MovesRun }
 {}

@@ -96,4 +96,4 @@ reference_runs names scripts logs each has =
     let began : IsRun p (opening p) (begin ∷ []) w.state = ((refl, tt), refl) in
     let run = moves_run p (plays_of scripts) w has.end has.feds plan (times_of scripts each) (runs_keep p (begin ∷ []) w.state plan began)
     (reference_moves p (plays_of scripts) w has.end has.feds has.run) in
-    (begin ∷ run.0, has.end.state, ((refl, tt), run.1), has.logs_are)
+    (((refl, tt), run.0), has.logs_are)

@@ -12,7 +12,8 @@ pub fn steps_run()
     ensures { StepsRun }
 {}
 
-/// The logs of a reference run are those of a run of its plan too: docs/RULES.md, Reference run.
+/// Begin, and then the steps of a reference run's moves in order, are a run of its plan, to the state whose logs
+/// are the reference logs: docs/RULES.md, Reference run.
 pub fn reference_runs()
     ensures { ReferenceRuns }
 {}
