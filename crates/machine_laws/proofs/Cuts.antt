@@ -67,7 +67,7 @@ first_each p s i plan keeps counts among =
     (at_most_each fed (dues_to s.items i.target) i.due is (dues_of p s i.target keeps) counts (dues_in s.items i among))
 
 -- no ancestor holds a grant where the cut is before each one's `first`
-none_holds : (p : Plan) (s : State) (cut : At) (some : List ℕ) → holder_in p s cut some ≡ None → Each (λ a. before cut (p.first a (event_in s a)) ≡ true) some
+pub none_holds : (p : Plan) (s : State) (cut : At) (some : List ℕ) → holder_in p s cut some ≡ None → Each (λ a. before cut (p.first a (event_in s a)) ≡ true) some
 none_holds p s cut [] none a among = absurd among
 none_holds p s cut (b ∷ some) none a among =
     let k = passed (before cut (p.first b (event_in s b))) (holder_in p s cut some) none in

@@ -1,11 +1,11 @@
 -- The laws aren't empty: a plan that has what they need, and a run of it.
-use Rattle.std.proofs.Common.{◌≡◌, inl, inr, ℕ, arith, refl, sym, ap, subst, List, [], ◌∷◌}
-use Rattle.std.specs.Prelude.{◌==◌}
+use Rattle.std.proofs.Common.{◌≡◌, inl, inr, ℕ, Bool, true, false, arith, refl, sym, ap, subst, List, [], ◌∷◌, take}
+use Rattle.std.specs.Prelude.{◌==◌, if◌then◌else◌}
 use Rattle.std.proofs.lemmas.Bool.{cases_Bool, eqb-true}
 use Rattle.helics_time.specs.Settings.{Terms, IsTerms, first_from}
 use Rattle.hel_lists.specs.Members.{IsIn}
 use Rattle.due_queue.specs.Order.{comes_before}
-use Rattle.machine_laws.specs.Plan.{Plan, IsPlan, Leg, Call, legs_of}
+use Rattle.machine_laws.specs.Plan.{Plan, IsPlan, Ascends, Leg, Call, legs_of}
 use Rattle.machine_laws.specs.Plan.Call.{publish, send}
 use Rattle.machine_laws.specs.Machine.{State, Step, opening, after}
 use Rattle.machine_laws.specs.Example.{pair, some_steps, PairRuns}
@@ -42,6 +42,11 @@ ancestor_is a f among = elim (cases_Bool (f == 1)) [
   | inr other ↦ let cut = rw other at among in absurd cut
 ]
 
+-- it stands alone
+ascends : (b : Bool) → Ascends (if b then 0 ∷ [] else [])
+ascends true = ((λ x none. absurd none), tt)
+ascends false = tt
+
 -- so the plan is as the laws need it
 pair_is : IsPlan pair
 pair_is = record {
@@ -59,6 +64,8 @@ pair_is = record {
       let here : IsIn a (pair.ancestors 1) = inl l.source in
       inr (subst (λ (k : ℕ). IsIn a (pair.ancestors k)) (sym l.target) here));
   closed = λ a b f first second differs. (let x = ancestor_is a b first in let y = ancestor_is b f second in let e = x.1 in let d = y.0 in absurd (omega (arith, e, d)));
+  ascend = λ f. ascends (f == 1);
+  others = λ f among. (let x = ancestor_is f f among in let a = x.0 in let b = x.1 in omega (arith, a, b));
 }
 
 -- the run by computing
@@ -70,4 +77,7 @@ pair_runs = record {
   run = ((refl, tt), ((refl, tt), ((refl, tt), ((refl, tt), ((refl, tt), ((refl, tt), ((refl, omega arith), ((refl, omega arith), ((refl, tt), refl)))))))));
   items = refl;
   log = refl;
+  asked = end_of pair (opening pair) (take 7 some_steps);
+  asking = ((refl, tt), ((refl, tt), ((refl, tt), ((refl, tt), ((refl, tt), ((refl, tt), ((refl, omega arith), refl)))))));
+  early = refl;
 }

@@ -1,14 +1,15 @@
 -- A plan of two federates, where the second has a message of the first, and a run of it.
-use Rattle.std.specs.Prelude.{◌≡◌, ℕ, ◌==◌, if◌then◌else◌, List, [], ◌∷◌, Some, None}
+use Rattle.std.specs.Prelude.{◌≡◌, ℕ, ◌==◌, if◌then◌else◌, List, [], ◌∷◌, take, Some, None}
 use Rattle.hel_values.specs.declared.EndRef.{EndRef}
 use Rattle.due_queue.specs.declared.item.Content.{Content}
 use Rattle.due_queue.specs.declared.item.Content.TheVariants.{Message}
 use Rattle.due_queue.specs.Item.{Parcel}
 use Rattle.iteration_rules.specs.declared.Mode.TheVariants.{Next}
 use Rattle.iteration_rules.specs.declared.Kind.TheVariants.{NextStep}
+use Rattle.machine_laws.specs.declared.refusal.Unlawful.TheVariants.{Early}
 use Rattle.machine_laws.specs.Plan.{Plan, IsPlan}
 use Rattle.machine_laws.specs.Plan.Call.{send}
-use Rattle.machine_laws.specs.Machine.{Step, State, default_terms, member_at, opening, IsRun}
+use Rattle.machine_laws.specs.Machine.{Step, State, default_terms, member_at, opening, refusal_of, IsRun}
 use Rattle.machine_laws.specs.Machine.Step.{begin, enter, make, request, grant}
 use Rattle.machine_laws.specs.First.{first_by}
 
@@ -49,7 +50,8 @@ some_steps =
 abbrev pub handed_item : Parcel
 handed_item = record { source = 0; seq = 0; target = 1; due = record { time = 10; micro = 0 }; content = message (7 ∷ []) 10 }
 
--- the plan is as the laws need it, the steps are a run, and they hand the message over at its due
+-- the plan is as the laws need it, and the steps are a run that hands the message over at its due; before the first
+-- federate asks, its grant would be early
 pub record PairRuns : Type 0 where
   pub plan : IsPlan pair
   pub end : State
@@ -58,3 +60,6 @@ pub record PairRuns : Type 0 where
   pub log : (member_at end 1).log ≡
       (record { grant = record { time = 0; micro = 1; kind = NextStep }; items = [] })
       ∷ (record { grant = record { time = 10; micro = 0; kind = NextStep }; items = handed_item ∷ [] }) ∷ []
+  pub asked : State
+  pub asking : IsRun pair (opening pair) (take 7 some_steps) asked
+  pub early : refusal_of pair asked (grant 1) ≡ Some (Early 0 (record { time = 0; micro = 1 }))

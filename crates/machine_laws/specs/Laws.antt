@@ -1,5 +1,5 @@
 -- Laws of every run.
-use Rattle.std.specs.Prelude.{ℕ, ◌+◌, ◌<◌, ◌≤◌, ◌≡◌, ◌⊎◌, Bool, true, List, [], ◌∷◌, ◌++◌, length, slice_index_or}
+use Rattle.std.specs.Prelude.{ℕ, ◌+◌, ◌<◌, ◌≤◌, ◌≡◌, ◌≢◌, ◌⊎◌, ◌↔◌, Bool, true, false, List, [], ◌∷◌, ◌++◌, length, slice_index_or, Some, None}
 use Rattle.std.specs.List.{filter}
 use Rattle.helics_time.specs.Stamp.{At, IsDue, rank}
 use Rattle.helics_time.specs.Settings.{is_lawful, delta_of}
@@ -9,12 +9,13 @@ use Rattle.due_queue.specs.Order.{InOrder}
 use Rattle.iteration_rules.specs.Iteration.{iterates}
 use Rattle.iteration_rules.specs.declared.Kind.{Kind}
 use Rattle.iteration_rules.specs.declared.Kind.TheVariants.{NextStep, Iterating}
-use Rattle.time_state.specs.Fed.{Fed, IsFed, zero_stamp, request_stamp, grant_of}
+use Rattle.time_state.specs.Fed.{Fed, IsFed, zero_stamp, is_asking, request_stamp, grant_of}
 use Rattle.time_state.specs.declared.Grant.{Grant}
 use Rattle.time_state.specs.declared.Phase.TheVariants.{Entering, Waiting}
 use Rattle.machine_laws.specs.declared.logs.LogEntry.{LogEntry}
+use Rattle.machine_laws.specs.declared.refusal.Unlawful.TheVariants.{StrangeNumber, NotAsked, Early}
 use Rattle.machine_laws.specs.Plan.{Call, Plan, IsPlan}
-use Rattle.machine_laws.specs.Machine.{State, Step, default_terms, member_at, event_in, cut_in, dues_to, handed_in, items_in, is_to, IsRun, IsLawful, after, opening}
+use Rattle.machine_laws.specs.Machine.{State, Step, default_terms, member_at, event_in, cut_in, dues_to, handed_in, items_in, is_to, refusal_of, IsRun, IsLawful, after, opening}
 use Rattle.machine_laws.specs.Machine.Step.{make, grant}
 
 -- what every state of a run keeps
@@ -94,6 +95,28 @@ pub record LogTells (p : Plan) (s : State) (f : ℕ) : Type 0 where
 -- So the settings, the grant before and the iterating grants since the time last rose are those of which `OnGrid` speaks.
 abbrev pub LogsTell : Type 0
 LogsTell = (p : Plan) (s : State) (f : ℕ) (steps : List Step) → IsPlan p → IsRun p (opening p) steps s → LogTells p s f
+
+-- an ancestor of f could still send what is due by the cut of f
+abbrev pub Holds : Plan → State → ℕ → ℕ → Type 0
+Holds p s f a = IsIn a (p.ancestors f) × (rank (p.first a (event_in s a)) ≤ rank (cut_in s f))
+
+-- a is the least federate that holds a grant of f, and this is its event
+pub record IsHolder (p : Plan) (s : State) (f a : ℕ) (event : At) : Type 0 where
+  pub holds : Holds p s f a
+  pub least : (b : ℕ) → Holds p s f b → a ≤ b
+  pub other : a ≢ f
+  pub acts : event ≡ event_in s a
+
+-- when a grant of f is refused, and for what
+pub record GrantRefusals (p : Plan) (s : State) (f : ℕ) : Type 0 where
+  pub strange : (refusal_of p s (grant f) ≡ Some StrangeNumber) ↔ (length s.members ≤ f)
+  pub unasked : (refusal_of p s (grant f) ≡ Some NotAsked) ↔ ((f < length s.members) × (is_asking (member_at s f).time.phase ≡ false))
+  pub early : (a : ℕ) (event : At) → (refusal_of p s (grant f) ≡ Some (Early a event)) ↔ ((is_asking (member_at s f).time.phase ≡ true) × IsHolder p s f a event)
+  pub lawful : (refusal_of p s (grant f) ≡ None) ↔ ((is_asking (member_at s f).time.phase ≡ true) × ((a : ℕ) → Holds p s f a → ⊥))
+
+-- A grant that was asked for is early exactly where an ancestor holds it; the least of them is named, with its event.
+abbrev pub EarlyNamesTheLeast : Type 0
+EarlyNamesTheLeast = (p : Plan) (s : State) (f : ℕ) (before : List Step) → IsPlan p → IsRun p (opening p) before s → GrantRefusals p s f
 
 -- none of these steps is a grant that reaches the item
 abbrev pub NotReached : Plan → State → List Step → Parcel → Type 0

@@ -1,7 +1,7 @@
 // Laws of all runs of the machine, over any plan that has what they need.
 ghost use Rattle.machine_laws.specs.Example.{PairRuns};
 ghost use Rattle.machine_laws.specs.First.{FirstLaws};
-ghost use Rattle.machine_laws.specs.Laws.{RunsKeep, NothingLate, GrantsOnGrid, LogsRise, LogsTell, KeptUntilReached, HandedWhenReached, HandedOnce, HandedInOrder, ItemsFromCalls, ItemsFates, ItemsAddUp, LogsHold};
+ghost use Rattle.machine_laws.specs.Laws.{RunsKeep, NothingLate, GrantsOnGrid, LogsRise, LogsTell, EarlyNamesTheLeast, KeptUntilReached, HandedWhenReached, HandedOnce, HandedInOrder, ItemsFromCalls, ItemsFates, ItemsAddUp, LogsHold};
 ghost use Rattle.machine_laws.specs.Moves.{Diamond, OneEnd, OneAnswer, MovesRun, ReferenceLogs};
 
 /// Every state of every run keeps the facts of its federates' times, and has its undelivered items in order,
@@ -26,6 +26,12 @@ pub fn grants_on_grid()
     ensures grid { GrantsOnGrid }
     ensures rise { LogsRise }
     ensures tell { LogsTell }
+{}
+
+/// A grant of a federate that asks for one is refused as Early exactly where an ancestor could still send what
+/// is due by its cut. The refusal names the least such ancestor and its event: docs/RULES.md, Steps.
+pub fn early_names_the_least()
+    ensures { EarlyNamesTheLeast }
 {}
 
 /// An item stays undelivered until the first grant of its target whose cut reaches its due. That grant hands
@@ -85,7 +91,8 @@ pub fn reference_logs()
     ensures { ReferenceLogs }
 {}
 
-/// The laws aren't empty: there is a plan that has what they need, and a run of it that hands an item over.
+/// The laws aren't empty: there is a plan that has what they need, a run of it that hands an item over, and a
+/// grant on its way that would be early.
 pub fn pair_runs()
     ensures { PairRuns }
 {}

@@ -59,6 +59,8 @@ names_plan names = record {
   delays = λ a seq call leg among. absurd (no_leg names a seq call leg among);
   targets = λ a seq call leg among. absurd (no_leg names a seq call leg among);
   closed = λ a b f among later differs. absurd among;
+  ascend = λ f. tt;
+  others = λ f among. among;
 }
 
 accepted_run : (s : Stage) (steps : List MachineStep) (end : Stage) → Accepts s steps end → IsRun (wires_of s.plan.names) s.state (map step_of steps) end.state
