@@ -7,6 +7,7 @@ pub mod News
 pub mod Keep
 pub mod Onward
 pub mod Grants
+pub mod Asked
 pub mod Early
 pub mod Fates
 pub mod Ledger

@@ -2,21 +2,23 @@
 use Rattle.std.specs.Prelude.{ℕ, ◌+◌, ◌<◌, ◌≤◌, ◌≡◌, ◌≢◌, ◌⊎◌, ◌↔◌, Bool, true, false, List, [], ◌∷◌, ◌++◌, length, slice_index_or, Some, None}
 use Rattle.std.specs.List.{filter}
 use Rattle.helics_time.specs.Stamp.{At, IsDue, rank}
-use Rattle.helics_time.specs.Settings.{is_lawful, delta_of}
+use Rattle.helics_time.specs.Settings.{Terms, is_lawful, delta_of}
 use Rattle.hel_lists.specs.Members.{IsIn, Each}
 use Rattle.due_queue.specs.Item.{Parcel}
 use Rattle.due_queue.specs.Order.{InOrder}
-use Rattle.iteration_rules.specs.Iteration.{iterates}
+use Rattle.iteration_rules.specs.Iteration.{iterates, effective}
 use Rattle.iteration_rules.specs.declared.Kind.{Kind}
 use Rattle.iteration_rules.specs.declared.Kind.TheVariants.{NextStep, Iterating}
-use Rattle.time_state.specs.Fed.{Fed, IsFed, zero_stamp, is_asking, request_stamp, grant_of}
+use Rattle.iteration_rules.specs.declared.Mode.{Mode}
+use Rattle.iteration_rules.specs.declared.Mode.TheVariants.{Force, IfNeeded}
+use Rattle.time_state.specs.Fed.{Fed, IsFed, zero_stamp, is_asking, request_stamp, requested, grant_of}
 use Rattle.time_state.specs.declared.Grant.{Grant}
 use Rattle.time_state.specs.declared.Phase.TheVariants.{Entering, Waiting}
 use Rattle.machine_laws.specs.declared.logs.LogEntry.{LogEntry}
 use Rattle.machine_laws.specs.declared.refusal.Unlawful.TheVariants.{StrangeNumber, NotAsked, Early}
 use Rattle.machine_laws.specs.Plan.{Call, Plan, IsPlan}
-use Rattle.machine_laws.specs.Machine.{State, Step, default_terms, member_at, event_in, cut_in, dues_to, handed_in, items_in, is_to, refusal_of, IsRun, IsLawful, after, opening}
-use Rattle.machine_laws.specs.Machine.Step.{make, grant}
+use Rattle.machine_laws.specs.Machine.{State, Step, default_terms, member_at, event_in, cut_in, dues_to, handed_in, items_in, is_to, requested_member, refusal_of, IsRun, IsLawful, after, opening}
+use Rattle.machine_laws.specs.Machine.Step.{make, request, grant}
 
 -- what every state of a run keeps
 pub record Keeps (p : Plan) (s : State) : Type 0 where
@@ -85,16 +87,56 @@ abbrev pub BeginsWithEntry : List LogEntry → Type 0
 BeginsWithEntry [] = Unit {0}
 BeginsWithEntry (e ∷ entries) = e.grant ≡ record { time = 0; micro = 1; kind = NextStep }
 
+-- the settings of a federate of a plan
+abbrev pub terms_of : Plan → ℕ → Terms
+terms_of p f = slice_index_or p.settings f default_terms
+
 -- a log begins with the entry, and what a federate keeps of its settings and its grants is what the plan and its log tell
 pub record LogTells (p : Plan) (s : State) (f : ℕ) : Type 0 where
   pub entry : BeginsWithEntry (member_at s f).log
-  pub settings : (member_at s f).time.settings ≡ slice_index_or p.settings f default_terms
+  pub settings : (member_at s f).time.settings ≡ terms_of p f
   pub last : (member_at s f).time.last ≡ last_stamp zero_stamp (member_at s f).log
   pub count : (member_at s f).time.count ≡ iterating_last 0 (member_at s f).log
 
 -- So the settings, the grant before and the iterating grants since the time last rose are those of which `OnGrid` speaks.
 abbrev pub LogsTell : Type 0
 LogsTell = (p : Plan) (s : State) (f : ℕ) (steps : List Step) → IsPlan p → IsRun p (opening p) steps s → LogTells p s f
+
+-- the last request of f in a run to s: nothing was granted to f since, and it is as that request left it
+pub record LastRequest (p : Plan) (s : State) (f : ℕ) (steps : List Step) : Type 0 where
+  pub before : List Step
+  pub time : ℕ
+  pub mode : Mode
+  pub later : List Step
+  pub split : steps ≡ before ++ request f time mode ∷ later
+  pub last : (t : ℕ) (m : Mode) → IsIn (request f t m) later → ⊥
+  pub ungranted : IsIn (grant f) later → ⊥
+  -- the state in which it was made
+  pub at : State
+  pub run : IsRun p (opening p) before at
+  -- it was taken in mode Next where the iterating grants stood at their limit
+  pub taken : (member_at s f).time.request ≡ record { time = time; mode = effective mode (iterating_last 0 (member_at at f).log) (terms_of p f).max_iterations }
+  pub left : member_at s f ≡ requested_member (member_at at f) time mode
+
+-- So what a federate waits for is what the last of its requests asked for.
+abbrev pub RequestsTell : Type 0
+RequestsTell = (p : Plan) (s : State) (f : ℕ) (steps : List Step) → IsPlan p → IsRun p (opening p) steps s → (member_at s f).time.phase ≡ Waiting → LastRequest p s f steps
+
+-- the stamp of a request that is made in this state
+abbrev pub stamp_asked : State → ℕ → ℕ → Mode → At
+stamp_asked s f time mode = request_stamp (requested (member_at s f).time time mode)
+
+-- a grant as the last request of its federate asked for it
+pub record AsAsked (p : Plan) (s : State) (f : ℕ) (steps : List Step) (g : Grant) : Type 0 where
+  pub asked : LastRequest p s f steps
+  pub within : rank (stamp_of g) ≤ rank (stamp_asked asked.at f asked.time asked.mode)
+  pub iterating : g.kind ≡ Iterating → ((asked.mode ≡ Force) ⊎ (asked.mode ≡ IfNeeded)) × (iterating_last 0 (member_at asked.at f).log < (terms_of p f).max_iterations)
+  pub uninterruptible : (terms_of p f).uninterruptible ≡ true → stamp_of g ≡ stamp_asked asked.at f asked.time asked.mode
+
+-- So each grant but the entry is as its federate asked for it last.
+abbrev pub GrantsAsAsked : Type 0
+GrantsAsAsked = (p : Plan) (s : State) (f : ℕ) (before : List Step) → IsPlan p → IsRun p (opening p) before s → IsLawful p s (grant f) → (member_at s f).time.phase ≡ Waiting →
+    AsAsked p s f before (grant_of (member_at s f).time (dues_to s.items f))
 
 -- an ancestor of f could still send what is due by the cut of f
 abbrev pub Holds : Plan → State → ℕ → ℕ → Type 0

@@ -1,7 +1,7 @@
 // Laws of all runs of the machine, over any plan that has what they need.
 ghost use Rattle.machine_laws.specs.Example.{PairRuns};
 ghost use Rattle.machine_laws.specs.First.{FirstLaws};
-ghost use Rattle.machine_laws.specs.Laws.{RunsKeep, NothingLate, GrantsOnGrid, LogsRise, LogsTell, EarlyNamesTheLeast, KeptUntilReached, HandedWhenReached, HandedOnce, HandedInOrder, ItemsFromCalls, ItemsFates, ItemsAddUp, LogsHold};
+ghost use Rattle.machine_laws.specs.Laws.{RunsKeep, NothingLate, GrantsOnGrid, LogsRise, LogsTell, RequestsTell, GrantsAsAsked, EarlyNamesTheLeast, KeptUntilReached, HandedWhenReached, HandedOnce, HandedInOrder, ItemsFromCalls, ItemsFates, ItemsAddUp, LogsHold};
 ghost use Rattle.machine_laws.specs.Moves.{Diamond, OneEnd, OneAnswer, MovesRun, ReferenceLogs};
 
 /// Every state of every run keeps the facts of its federates' times, and has its undelivered items in order,
@@ -21,11 +21,14 @@ pub fn nothing_late()
 /// the time before. Each Iterating grant has the time of the grant before, was asked for in mode Force or
 /// IfNeeded, and stands within `max_iterations`. An uninterruptible federate's grant has its request's stamp,
 /// the entry excepted. The grant before, its count of iterating grants and the settings are those that the
-/// federate's log and the plan tell. docs/RULES.md, Grid.
+/// federate's log and the plan tell. What was asked for is what the last request of the federate in the run
+/// asked for, in the mode in which it was taken, and no grant is later than that: docs/RULES.md, Grants.
 pub fn grants_on_grid()
     ensures grid { GrantsOnGrid }
     ensures rise { LogsRise }
     ensures tell { LogsTell }
+    ensures requests { RequestsTell }
+    ensures asked { GrantsAsAsked }
 {}
 
 /// A grant of a federate that asks for one is refused as Early exactly where an ancestor could still send what
