@@ -24,6 +24,13 @@ impl Model for Ancestors {
 }
 
 impl Ancestors {
+    /// The number of federates.
+    pub fn count(&self) -> usize
+        ensures { result ≡ length self.now }
+    {
+        self.rows.len()
+    }
+
     /// The ancestors of a federate, in ascending order.
     pub fn of(&self, f: u16) -> &[u16]
         requires { f < length self.now }

@@ -18,6 +18,11 @@ fn ancestors(alloc: Global, count: u16, pairs: &[(u16, u16)]) -> Result<Ancestor
     Ok(links.close(alloc)?)
 }
 
+// Whether these are the ancestors of a federate.
+fn is_row(ancestors: &Ancestors, f: u16, row: &[u16]) -> bool {
+    (f as usize) < ancestors.count() && ancestors.of(f) == row
+}
+
 #[test]
 fn paths_of_four(rt: HostRuntime) -> Result<(), Fail> {
     // links, and the ancestors of each
@@ -47,8 +52,8 @@ fn paths_of_four(rt: HostRuntime) -> Result<(), Fail> {
         let ancestors = ancestors(rt.alloc(), 4, pairs)?;
         let copy = ancestors.copy(rt.alloc())?;
         for (f, row) in rows.iter().enumerate() {
-            assert!(rt; ancestors.of(f as u16) == *row, "{pairs:?} {f}");
-            assert!(rt; copy.of(f as u16) == *row, "{pairs:?} {f}");
+            assert!(rt; is_row(&ancestors, f as u16, row), "{pairs:?} {f}");
+            assert!(rt; is_row(&copy, f as u16, row), "{pairs:?} {f}");
         }
     }
     Ok(())
@@ -56,8 +61,8 @@ fn paths_of_four(rt: HostRuntime) -> Result<(), Fail> {
 
 #[test]
 fn one_federate(rt: HostRuntime) -> Result<(), Fail> {
-    assert!(rt; ancestors(rt.alloc(), 1, &[])?.of(0).is_empty());
-    assert!(rt; ancestors(rt.alloc(), 1, &[(0, 0)])?.of(0).is_empty());
+    assert!(rt; is_row(&ancestors(rt.alloc(), 1, &[])?, 0, &[]));
+    assert!(rt; is_row(&ancestors(rt.alloc(), 1, &[(0, 0)])?, 0, &[]));
     Ok(())
 }
 
@@ -68,8 +73,9 @@ fn five_hundred_and_twelve(rt: HostRuntime) -> Result<(), Fail> {
         pairs.push((f + 1, f))?;
     }
     let ancestors = ancestors(rt.alloc(), 512, &pairs)?;
-    for (f, count) in [(511, 0), (510, 1), (256, 255), (0, 511)] {
-        assert_eq!(rt; ancestors.of(f).len(), count, "{f}");
-    }
+    assert_eq!(rt; ancestors.count(), 512);
+    assert!(rt; is_row(&ancestors, 511, &[]));
+    assert!(rt; is_row(&ancestors, 508, &[509, 510, 511]));
+    assert!(rt; ancestors.count() > 0 && ancestors.of(0).len() == 511);
     Ok(())
 }
