@@ -1,0 +1,38 @@
+-- Lists that are changed from their front on.
+use Rattle.std.proofs.Common.{ℕ, zero, suc, ◌+◌, ◌<◌, ◌≡◌, refl, ap, sym, ◌∙◌, List, [], ◌∷◌, ◌++◌, map, length, get_or, drop, take, arith, Some, None}
+use Rattle.std.specs.Prelude.{slice_set, slice_get}
+use Rattle.std.proofs.lemmas.Option.{none-some, same_Some}
+
+-- the first items of a list through f, and the rest as they are
+abbrev pub changed : {A : Type 0} → (A → A) → ℕ → List A → List A
+changed f zero xs = xs
+changed f (suc n) [] = []
+changed f (suc n) (x ∷ xs) = f x ∷ changed f n xs
+
+-- one more
+pub changed_next : {A : Type 0} (f : A → A) (n : ℕ) (xs : List A) (d : A) → n < length xs → slice_set (changed f n xs) n (f (get_or (changed f n xs) n d)) ≡ changed f (suc n) xs
+changed_next f n [] d within = absurd (omega arith)
+changed_next f zero (x ∷ xs) d within = refl
+changed_next {A = A} f (suc n) (x ∷ xs) d within = ap (λ (l : List A). f x ∷ l) (changed_next f n xs d (omega arith))
+
+-- all
+pub changed_all : {A : Type 0} (f : A → A) (xs : List A) → changed f (length xs) xs ≡ map f xs
+changed_all f [] = refl
+changed_all {A = A} f (x ∷ xs) = ap (λ (l : List A). f x ∷ l) (changed_all f xs)
+
+pub changed_length : {A : Type 0} (f : A → A) (n : ℕ) (xs : List A) → length (changed f n xs) ≡ length xs
+changed_length f zero xs = refl
+changed_length f (suc n) [] = refl
+changed_length f (suc n) (x ∷ xs) = ap suc (changed_length f n xs)
+
+-- the rest of a list at a place within it, and past its end
+pub drop_at_some : {A : Type 0} (n : ℕ) (xs : List A) (x : A) → slice_get xs n ≡ Some x → drop n xs ≡ x ∷ drop (suc n) xs
+drop_at_some n [] x is = absurd (none-some x is)
+drop_at_some {A = A} zero (y ∷ ys) x is = ap (λ (z : A). z ∷ ys) (same_Some y x is)
+drop_at_some (suc n) (y ∷ ys) x is = drop_at_some n ys x is
+
+pub drop_at_none : {A : Type 0} (n : ℕ) (xs : List A) → slice_get xs n ≡ None → drop n xs ≡ []
+drop_at_none zero [] is = refl
+drop_at_none (suc n) [] is = refl
+drop_at_none zero (y ∷ ys) is = absurd (none-some y (sym is))
+drop_at_none (suc n) (y ∷ ys) is = drop_at_none n ys is

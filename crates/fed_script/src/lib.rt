@@ -1,0 +1,12 @@
+//! Scripts of federates: their words, the view over which they act, and the actions that they give.
+#![tactic(auto)]
+
+mod action;
+mod script;
+mod view;
+mod word;
+
+pub use action::Action;
+pub use script::Script;
+pub use view::View;
+pub use word::Word;
