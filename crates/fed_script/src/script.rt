@@ -1,7 +1,7 @@
 ghost use Rattle.std.specs.Prelude.{◌≡◌, IfOk, drop, slice_get};
 ghost use Rattle.fed_script.specs.Script.{IsCourse, HasTime, next_action, words_after, view_after};
 
-use crate::{Action, View, Word};
+use crate::{Action, View, Word, Words};
 use hel_lists::{Copied, Items, OutOfMemory};
 use std::alloc::Global;
 use std::marker::Model;
@@ -29,14 +29,14 @@ impl Model for Script {
 
 impl Script {
     /// The script of these actions and words. It takes no memory.
-    pub fn of(initial: Items<Action>, words: Items<Word>) -> Script
+    pub fn of(initial: Items<Action>, words: Words) -> Script
         requires { IsCourse (record { initial = initial; words = words }) }
         ensures { result ≡ record { initial = initial; words = words } }
     {
         Script {
             initial,
             initial_place: 0,
-            words,
+            words: words.into_items(),
             place: 0,
         }
     }

@@ -2,7 +2,7 @@
 use Rattle.std.proofs.Common.{◌≡◌, ◌+◌, suc, refl, ap, sym, subst, ◌∙◌, add-one, List, drop}
 use Rattle.fed_script.specs.declared.word.Word.{Word}
 use Rattle.fed_script.specs.Script.{Course, KeepTimes, words_after}
-use Rattle.fed_script.proofs.Words.{words_after-drop, keep_times_after}
+use Rattle.fed_script.proofs.Passing.{words_after-drop, keep_times_after}
 use Rattle.fed_script.proofs.script.Script.advance.Goals as goal
 
 pub invariant_of-self : goal.invariant_of-self

@@ -2,7 +2,7 @@
 use Rattle.std.proofs.Common.{◌≡◌, ◌+◌, refl, subst, drop}
 use Rattle.std.proofs.lemmas.List.{drop-drop}
 use Rattle.fed_script.specs.Script.{IsInitial}
-use Rattle.fed_script.proofs.Words.{is_initial_after}
+use Rattle.fed_script.proofs.Passing.{is_initial_after}
 use Rattle.fed_script.proofs.script.Script.advance_initial.Goals as goal
 
 pub invariant_of-self : goal.invariant_of-self
