@@ -1,0 +1,3 @@
+pub mod Climb
+pub mod Cuts
+pub mod Paths

@@ -1,0 +1,3 @@
+pub mod Cuts
+pub mod Hops
+pub mod Tree
