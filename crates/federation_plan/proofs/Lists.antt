@@ -1,0 +1,33 @@
+-- Lists and their members.
+use Rattle.std.proofs.Common.{◌≡◌, ◌⊎◌, inl, inr, ℕ, zero, suc, ◌+◌, ◌<◌, ◌≤◌, List, [], ◌∷◌, ◌++◌, length, get_or, take, arith, refl, sym, ◌∙◌, ap, subst}
+use Rattle.std.proofs.lemmas.List.{take_more}
+use Rattle.hel_lists.specs.Members.{IsIn, Each}
+
+-- the item at a place is a member
+pub at_in : {A : Type 0} (xs : List A) (k : ℕ) (d : A) → k < length xs → IsIn (get_or xs k d) xs
+at_in [] k d below = absurd (omega arith)
+at_in (x ∷ xs) zero d below = inl refl
+at_in (x ∷ xs) (suc k) d below = inr (at_in xs k d (omega arith))
+
+-- a member of two lists, one after the other
+pub in_append : {A : Type 0} (xs ys : List A) (x : A) → IsIn x (xs ++ ys) → IsIn x xs ⊎ IsIn x ys
+in_append [] ys x among = inr among
+in_append (z ∷ zs) ys x among = elim among [
+  | inl here ↦ inl (inl here)
+  | inr later ↦ elim (in_append zs ys x later) [ inl first ↦ inl (inr first) | inr second ↦ inr second ]
+]
+
+pub append_left : {A : Type 0} (xs ys : List A) (x : A) → IsIn x xs → IsIn x (xs ++ ys)
+append_left [] ys x among = absurd among
+append_left (z ∷ zs) ys x among = elim among [ inl here ↦ inl here | inr later ↦ inr (append_left zs ys x later) ]
+
+pub append_right : {A : Type 0} (xs ys : List A) (x : A) → IsIn x ys → IsIn x (xs ++ ys)
+append_right [] ys x among = among
+append_right (z ∷ zs) ys x among = inr (append_right zs ys x among)
+
+-- what holds of each of the first items, and of the next one
+pub each_more : {A : Type 0} (P : A → Type 0) (xs : List A) (i : ℕ) (d : A) → i < length xs → Each P (take i xs) → P (get_or xs i d) → Each P (take (i + 1) xs)
+each_more P xs i d below first next x among = elim (in_append (take i xs) (get_or xs i d ∷ []) x (subst (IsIn x) (take_more xs i d below) among)) [
+  | inl before ↦ first x before
+  | inr last ↦ elim last [ inl here ↦ subst P (sym here) next | inr none ↦ absurd none ]
+]

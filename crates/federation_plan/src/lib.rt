@@ -1,0 +1,6 @@
+//! The plan of a federation: its tree, its federates, and which of them reach which.
+#![tactic(auto)]
+
+mod tree;
+
+pub use tree::{NODE_LIMIT, NodeKind, NodeRow, Tree};
