@@ -66,10 +66,27 @@ abbrev pub integer_of : Data → Result ℤ ConfigCause
 integer_of (number n) = signed_number n
 integer_of _ = Err NotANumber
 
+-- ---- the ways to read a value
+
+abbrev pub any_text : Data → Read (List ℕ)
+any_text value = here (text_of value)
+
+abbrev pub text_up_to : ℕ → Data → Read (List ℕ)
+text_up_to most value = here (short_text_of most value)
+
+abbrev pub true_or_false : Data → Read Bool
+true_or_false value = here (flag_of value)
+
+abbrev pub time_up_to : ℕ → Data → Read ℕ
+time_up_to most value = here (time_of most value)
+
+abbrev pub whole_between : ℕ → ℕ → Data → Read ℕ
+whole_between least most value = here (whole_of least most value)
+
 -- a text, or a list of texts
 abbrev pub texts_in : Data → Read (List (List ℕ))
 texts_in (string text) = Ok (text ∷ [])
-texts_in (array items) = each_from (λ value. here (text_of value)) 0 items
+texts_in (array items) = each_from any_text 0 items
 texts_in _ = here (Err NotAText)
 
 -- what a lent list is

@@ -70,7 +70,7 @@ pub fn members<'v>(
 ) -> Result<&'v Object, ConfigRefusal>
     ensures { Gives (λ m. pairs_of m.now.entries) result (members_of (texts_of table.now) (view value.now)) }
 {
-    match object(value) {
+    match as_object(value) {
         None => Err(ConfigRefusal::of(alloc, ConfigCause::NotAnObject)),
         Some(object) => {
             if has_doubled(object, table) {
@@ -82,7 +82,8 @@ pub fn members<'v>(
     }
 }
 
-fn object(value: &Value) -> Option<&Object>
+/// The members of an object, and `None` where the value is none.
+pub fn as_object(value: &Value) -> Option<&Object>
     ensures { option_map (λ m. pairs_of m.now.entries) result ≡ object_of (view value.now) }
 {
     value.as_object()

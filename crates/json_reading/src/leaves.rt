@@ -91,12 +91,11 @@ pub fn integer(value: &Value) -> Result<i64, ConfigCause>
 pub struct AnyText;
 
 impl Reader for AnyText {
-    ghost use Rattle.json_reading.specs.Reading.{here};
-    ghost use Rattle.json_reading.specs.Leaves.{text_of};
+    ghost use Rattle.json_reading.specs.Leaves.{any_text};
 
     type Output = Text;
 
-    ghost reads = { λ reader value. here (text_of value) };
+    ghost reads = { λ reader. any_text };
 
     fn read(&self, alloc: Global, value: &Value) -> Result<Text, ConfigRefusal> {
         match text(value) {
@@ -116,12 +115,11 @@ pub struct TextUpTo {
 }
 
 impl Reader for TextUpTo {
-    ghost use Rattle.json_reading.specs.Reading.{here};
-    ghost use Rattle.json_reading.specs.Leaves.{short_text_of};
+    ghost use Rattle.json_reading.specs.Leaves.{text_up_to};
 
     type Output = Text;
 
-    ghost reads = { λ reader value. here (short_text_of reader.most value) };
+    ghost reads = { λ reader. text_up_to reader.most };
 
     fn read(&self, alloc: Global, value: &Value) -> Result<Text, ConfigRefusal> {
         match text(value) {
@@ -142,12 +140,11 @@ impl Reader for TextUpTo {
 pub struct TrueOrFalse;
 
 impl Reader for TrueOrFalse {
-    ghost use Rattle.json_reading.specs.Reading.{here};
-    ghost use Rattle.json_reading.specs.Leaves.{flag_of};
+    ghost use Rattle.json_reading.specs.Leaves.{true_or_false};
 
     type Output = bool;
 
-    ghost reads = { λ reader value. here (flag_of value) };
+    ghost reads = { λ reader. true_or_false };
 
     fn read(&self, alloc: Global, value: &Value) -> Result<bool, ConfigRefusal> {
         match flag(value) {
@@ -164,12 +161,11 @@ pub struct TimeUpTo {
 }
 
 impl Reader for TimeUpTo {
-    ghost use Rattle.json_reading.specs.Reading.{here};
-    ghost use Rattle.json_reading.specs.Leaves.{time_of};
+    ghost use Rattle.json_reading.specs.Leaves.{time_up_to};
 
     type Output = u64;
 
-    ghost reads = { λ reader value. here (time_of reader.most value) };
+    ghost reads = { λ reader. time_up_to reader.most };
 
     fn read(&self, alloc: Global, value: &Value) -> Result<u64, ConfigRefusal> {
         match time(value, self.most) {
@@ -187,12 +183,11 @@ pub struct WholeBetween {
 }
 
 impl Reader for WholeBetween {
-    ghost use Rattle.json_reading.specs.Reading.{here};
-    ghost use Rattle.json_reading.specs.Leaves.{whole_of};
+    ghost use Rattle.json_reading.specs.Leaves.{whole_between};
 
     type Output = u64;
 
-    ghost reads = { λ reader value. here (whole_of reader.least reader.most value) };
+    ghost reads = { λ reader. whole_between reader.least reader.most };
 
     fn read(&self, alloc: Global, value: &Value) -> Result<u64, ConfigRefusal> {
         match whole(value, self.least, self.most) {

@@ -10,7 +10,7 @@ mod refusal;
 
 pub use document::parse;
 pub use fields::{Reader, needed, needed_either, optional, optional_either};
-pub use keys::{Object, has_doubled, member, members, same_key};
+pub use keys::{Object, as_object, has_doubled, member, members, same_key};
 pub use leaves::{
     AnyText, TextUpTo, TimeUpTo, TrueOrFalse, WholeBetween, flag, integer, text, time, whole,
 };

@@ -27,7 +27,7 @@ where
 
     type Output = Items<R::Output>;
 
-    ghost reads = { λ list value. list_of list.most (R.reads list.reader) value };
+    ghost reads = { λ list. list_of list.most (R.reads list.reader) };
 
     fn read(&self, alloc: Global, value: &Value) -> Result<Items<R::Output>, ConfigRefusal> {
         match items(value, self.most) {
@@ -58,7 +58,7 @@ impl Reader for TextOrTexts {
 
     type Output = Items<Text>;
 
-    ghost reads = { λ reader value. texts_in value };
+    ghost reads = { λ reader. texts_in };
 
     fn read(&self, alloc: Global, value: &Value) -> Result<Items<Text>, ConfigRefusal> {
         match value {

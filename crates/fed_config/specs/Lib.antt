@@ -1,0 +1,4 @@
+pub mod Federate
+pub mod Filters
+pub mod Interfaces
+pub mod Words

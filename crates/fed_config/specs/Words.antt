@@ -1,0 +1,54 @@
+-- The words that stand for kinds of values and for what a filter does.
+use Rattle.std.specs.Prelude.{ℕ, List, [], ◌∷◌, codes, find, Option, Some, None, option_map, Result, Ok, Err}
+use Rattle.std.specs.Str.{bytes_eq}
+use Rattle.serde_json.specs.Data.{Data}
+use Rattle.hel_values.specs.declared.ValueKind.{ValueKind}
+use Rattle.hel_values.specs.declared.ValueKind.TheVariants.{Int, Text, Bytes}
+use Rattle.json_reading.specs.Reading.{Read, here}
+use Rattle.json_reading.specs.Leaves.{or_cause, text_of}
+use Rattle.json_reading.specs.declared.refusal.ConfigCause.{ConfigCause}
+use Rattle.json_reading.specs.declared.refusal.ConfigCause.TheVariants.{UnknownWord}
+use Rattle.fed_config.specs.declared.words.Operation.{Operation}
+use Rattle.fed_config.specs.declared.words.Operation.TheVariants.{Delay, RandomDrop, Reroute}
+
+-- what a word of a table stands for
+abbrev pub named_in : {A : Type 0} → List (List ℕ × A) → List ℕ → Option A
+named_in table word = option_map (λ row. row.1) (find (λ row. bytes_eq row.0 word) table)
+
+abbrev pub word_of : {A : Type 0} → (List ℕ → Option A) → Result (List ℕ) ConfigCause → Result A ConfigCause
+word_of meaning (Ok word) = or_cause UnknownWord (meaning word)
+word_of meaning (Err cause) = Err cause
+
+-- a word of a table
+abbrev pub word_in : {A : Type 0} → List (List ℕ × A) → Data → Read A
+word_in table value = here (word_of (named_in table) (text_of value))
+
+abbrev pub kinds : List (List ℕ × ValueKind)
+kinds =
+    (codes "int", Int)
+    ∷ (codes "int64", Int)
+    ∷ (codes "integer", Int)
+    ∷ (codes "string", Text)
+    ∷ (codes "raw", Bytes)
+    ∷ (codes "bytes", Bytes)
+    ∷ []
+
+-- the kinds that an input may take; none is any
+abbrev pub input_kinds : List (List ℕ × Option ValueKind)
+input_kinds =
+    (codes "int", Some Int)
+    ∷ (codes "int64", Some Int)
+    ∷ (codes "integer", Some Int)
+    ∷ (codes "string", Some Text)
+    ∷ (codes "raw", Some Bytes)
+    ∷ (codes "bytes", Some Bytes)
+    ∷ (codes "any", None)
+    ∷ []
+
+abbrev pub operations : List (List ℕ × Operation)
+operations =
+    (codes "delay", Delay)
+    ∷ (codes "random_drop", RandomDrop)
+    ∷ (codes "randomdrop", RandomDrop)
+    ∷ (codes "reroute", Reroute)
+    ∷ []
