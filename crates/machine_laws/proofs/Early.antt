@@ -1,6 +1,7 @@
 -- A grant is early by the least ancestor that holds it.
-use Rattle.std.proofs.Common.{◌≡◌, ◌⊎◌, inl, inr, ℕ, ◌<◌, ◌≤◌, Bool, true, false, arith, refl, sym, ◌∙◌, ap, subst, List, [], ◌∷◌, length, Some, None}
+use Rattle.std.proofs.Common.{◌≡◌, ◌⊎◌, inl, inr, ℕ, suc, ◌+◌, ◌<◌, ◌≤◌, Bool, true, false, arith, refl, sym, ◌∙◌, ap, subst, List, [], ◌∷◌, length, get_or, Some, None}
 use Rattle.std.specs.Prelude.{nat_lt, if◌then◌else◌}
+use Rattle.std.specs.List.Sorted.{IsStrictlyIncreasing}
 use Rattle.std.proofs.lemmas.Bool.{cases_Bool, cases_lt, false≢true}
 use Rattle.std.proofs.lemmas.Bool.Decides.{nat_tests}
 use Rattle.std.proofs.lemmas.List.{get_or_past}
@@ -10,7 +11,7 @@ use Rattle.hel_lists.specs.Members.{IsIn}
 use Rattle.time_state.specs.Fed.{is_asking}
 use Rattle.time_state.proofs.Grants.{grant_stands}
 use Rattle.machine_laws.specs.declared.refusal.Unlawful.TheVariants.{StrangeNumber, NotAsked, Early}
-use Rattle.machine_laws.specs.Plan.{Plan, IsPlan, Ascends}
+use Rattle.machine_laws.specs.Plan.{Plan, IsPlan}
 use Rattle.machine_laws.specs.Machine.{Member, State, member_at, blank_member, dues_to, event_in, cut_in, holder_in, grant_refusal, refusal_of, opening}
 use Rattle.machine_laws.specs.Machine.Step.{grant}
 use Rattle.machine_laws.specs.Laws.{Keeps, Holds, IsHolder, GrantRefusals, EarlyNamesTheLeast}
@@ -26,11 +27,28 @@ record Found (p : Plan) (s : State) (cut : At) (some : List ℕ) (a : ℕ) : Typ
   late : before cut (p.first a (event_in s a)) ≡ false
   least : (b : ℕ) → IsIn b some → before cut (p.first b (event_in s b)) ≡ false → a ≤ b
 
--- of a list that ascends the first is the least
-find : (p : Plan) (s : State) (cut : At) (some : List ℕ) → Ascends some → (holder_in p s cut some ≡ None) ⊎ ((a : ℕ) × Found p s cut some a)
+-- what comes behind the first of a list that ascends does too
+ascends_behind : (a : ℕ) (more : List ℕ) → IsStrictlyIncreasing (a ∷ more) → IsStrictlyIncreasing more
+ascends_behind a more up k within =
+    let next : suc k + 1 ≡ suc (k + 1) = omega arith in
+    subst (λ (j : ℕ). get_or more k 0 < get_or (a ∷ more) j 0) next (up (suc k) (omega (arith, within)))
+
+-- and is above it
+first_below : (a : ℕ) (more : List ℕ) → IsStrictlyIncreasing (a ∷ more) → (b : ℕ) → IsIn b more → a < b
+first_below a [] up b among = absurd among
+first_below a (c ∷ more) up b among =
+    let next : a < get_or (a ∷ c ∷ more) (0 + 1) 0 = up 0 (omega arith) in
+    let less : a < c = next in
+    elim among [
+      | inl here ↦ (omega (arith, less, here))
+      | inr later ↦ (let rest = first_below c more (ascends_behind a (c ∷ more) up) b later in omega (arith, less, rest))
+    ]
+
+-- so the first that isn't passed is the least
+find : (p : Plan) (s : State) (cut : At) (some : List ℕ) → IsStrictlyIncreasing some → (holder_in p s cut some ≡ None) ⊎ ((a : ℕ) × Found p s cut some a)
 find p s cut [] ascends = inl refl
 find p s cut (a ∷ more) ascends = elim (cases_Bool (before cut (p.first a (event_in s a)))) [
-  | inl free ↦ elim (find p s cut more ascends.1) [
+  | inl free ↦ elim (find p s cut more (ascends_behind a more ascends)) [
     | inl none ↦ inl (on true free ∙ none)
     | inr found ↦ inr (
       found.0,
@@ -53,7 +71,7 @@ find p s cut (a ∷ more) ascends = elim (cases_Bool (before cut (p.first a (eve
       late = late;
       least = λ b among is. elim among [
         | inl here ↦ (omega (arith, here))
-        | inr later ↦ (let below = ascends.0 b later in omega (arith, below))
+        | inr later ↦ (let below = first_below a more ascends b later in omega (arith, below))
       ];
     },
   )

@@ -1,11 +1,12 @@
 -- The laws aren't empty: a plan that has what they need, and a run of it.
 use Rattle.std.proofs.Common.{◌≡◌, inl, inr, ℕ, Bool, true, false, arith, refl, sym, ap, subst, List, [], ◌∷◌, take}
 use Rattle.std.specs.Prelude.{◌==◌, if◌then◌else◌}
+use Rattle.std.specs.List.Sorted.{IsStrictlyIncreasing}
 use Rattle.std.proofs.lemmas.Bool.{cases_Bool, eqb-true}
 use Rattle.helics_time.specs.Settings.{Terms, IsTerms, first_from}
 use Rattle.hel_lists.specs.Members.{IsIn}
 use Rattle.due_queue.specs.Order.{comes_before}
-use Rattle.machine_laws.specs.Plan.{Plan, IsPlan, Ascends, Leg, Call, legs_of}
+use Rattle.machine_laws.specs.Plan.{Plan, IsPlan, Leg, Call, legs_of}
 use Rattle.machine_laws.specs.Plan.Call.{publish, send}
 use Rattle.machine_laws.specs.Machine.{State, Step, opening, after}
 use Rattle.machine_laws.specs.Example.{pair, some_steps, PairRuns}
@@ -43,9 +44,9 @@ ancestor_is a f among = elim (cases_Bool (f == 1)) [
 ]
 
 -- it stands alone
-ascends : (b : Bool) → Ascends (if b then 0 ∷ [] else [])
-ascends true = ((λ x none. absurd none), tt)
-ascends false = tt
+ascends : (b : Bool) → IsStrictlyIncreasing (if b then 0 ∷ [] else [])
+ascends true k within = absurd (omega (arith, within))
+ascends false k within = absurd (omega (arith, within))
 
 -- so the plan is as the laws need it
 pair_is : IsPlan pair

@@ -1,5 +1,6 @@
 -- What the machine needs of a plan: a record of functions, so that its laws hold over any tables.
-use Rattle.std.specs.Prelude.{ℕ, ◌+◌, ◌^◌, ◌<◌, ◌≤◌, ◌≡◌, ◌≢◌, ◌⊎◌, Bool, nat_lt, ◌==◌, if◌then◌else◌, List, [], ◌∷◌, map, Option}
+use Rattle.std.specs.Prelude.{ℕ, ◌+◌, ◌^◌, ◌<◌, ◌≤◌, ◌≡◌, ◌≢◌, ◌⊎◌, Bool, nat_lt, ◌==◌, if◌then◌else◌, List, map, Option}
+use Rattle.std.specs.List.Sorted.{IsStrictlyIncreasing}
 use Rattle.std.specs.Option.{option_to_list}
 use Rattle.helics_time.specs.Time.{horizon}
 use Rattle.helics_time.specs.Stamp.{At, IsStamp, next_of, rank}
@@ -65,11 +66,6 @@ item_of fed f seq leg =
 abbrev pub items_by : Plan → Fed → ℕ → ℕ → Call → List Parcel
 items_by p fed f seq call = map (item_of fed f seq) (legs_of p f seq call)
 
--- each number of a list is below those behind it
-abbrev pub Ascends : List ℕ → Type 0
-Ascends [] = Unit {0}
-Ascends (a ∷ more) = Each (λ b. a < b) more × Ascends more
-
 -- what the laws need of a plan
 pub record IsPlan (p : Plan) : Type 0 where
   pub settings : Each IsTerms p.settings
@@ -84,5 +80,5 @@ pub record IsPlan (p : Plan) : Type 0 where
   pub targets : (a seq : ℕ) (call : Call) (leg : Leg) → IsIn leg (legs_of p a seq call) → (leg.target ≡ a) ⊎ IsIn a (p.ancestors leg.target)
   pub closed : (a b f : ℕ) → IsIn a (p.ancestors b) → IsIn b (p.ancestors f) → a ≢ f → IsIn a (p.ancestors f)
   -- ancestors ascend, and no federate is one of its own
-  pub ascend : (f : ℕ) → Ascends (p.ancestors f)
+  pub ascend : (f : ℕ) → IsStrictlyIncreasing (p.ancestors f)
   pub others : (f : ℕ) → IsIn f (p.ancestors f) → ⊥

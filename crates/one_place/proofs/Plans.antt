@@ -59,7 +59,7 @@ names_plan names = record {
   delays = λ a seq call leg among. absurd (no_leg names a seq call leg among);
   targets = λ a seq call leg among. absurd (no_leg names a seq call leg among);
   closed = λ a b f among later differs. absurd among;
-  ascend = λ f. tt;
+  ascend = λ f k within. absurd (omega (arith, within));
   others = λ f among. among;
 }
 
