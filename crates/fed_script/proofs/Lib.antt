@@ -1,2 +1,7 @@
+pub mod Counts
+pub mod Inboxes
 pub mod Lists
+pub mod Parts
 pub mod Passing
+pub mod Search
+pub mod Turns

@@ -36,3 +36,8 @@ drop_at_none zero [] is = refl
 drop_at_none (suc n) [] is = refl
 drop_at_none zero (y ∷ ys) is = absurd (none-some y (sym is))
 drop_at_none (suc n) (y ∷ ys) is = drop_at_none n ys is
+
+-- what stands first stands first with more behind it
+pub first_append : {A : Type 0} (xs ys : List A) (x : A) → slice_get xs 0 ≡ Some x → slice_get (xs ++ ys) 0 ≡ Some x
+first_append [] ys x is = absurd (none-some x is)
+first_append (y ∷ xs) ys x is = is

@@ -2,6 +2,10 @@
 #![tactic(auto)]
 
 mod action;
+mod arrivals;
+mod laws;
+mod names;
+mod rounds;
 mod script;
 #[cfg(test)]
 mod tests;
@@ -10,6 +14,8 @@ mod word;
 mod words;
 
 pub use action::Action;
+pub use laws::script_laws;
+pub use names::EndpointNames;
 pub use script::Script;
 pub use view::View;
 pub use word::Word;

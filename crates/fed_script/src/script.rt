@@ -1,6 +1,9 @@
-ghost use Rattle.std.specs.Prelude.{◌≡◌, IfOk, drop, slice_get};
-ghost use Rattle.fed_script.specs.Script.{IsCourse, HasTime, next_action, words_after, view_after};
+ghost use Rattle.std.specs.Prelude.{◌≡◌, IfOk, drop, find, slice_get};
+ghost use Rattle.std.specs.Option.{option_copied};
+ghost use Rattle.fed_script.specs.Round.{left_of};
+ghost use Rattle.fed_script.specs.Script.{IsInitial, IsCourse, HasTime, gives, given_from, next_action, behind_first, seen_after, words_after, view_after};
 
+use crate::rounds::Rounds;
 use crate::{Action, View, Word, Words};
 use hel_lists::{Copied, Items, OutOfMemory};
 use std::alloc::Global;
@@ -12,32 +15,32 @@ use std::marker::Model;
 pub struct Script {
     initial: Items<Action>,
     initial_place: usize,
-    words: Items<Word>,
-    place: usize,
+    rounds: Option<Rounds>,
 }
 
 impl Model for Script {
     ghost use Rattle.std.specs.Prelude.{drop};
+    ghost use Rattle.fed_script.specs.Round.{left_of};
     ghost use Rattle.fed_script.specs.Script.{Course, IsCourse};
 
     ghost Value = { Course };
 
-    ghost view = { λ s. record { initial = drop s.initial_place s.initial; words = drop s.place s.words } };
+    ghost view = { λ s. record { initial = drop s.initial_place s.initial; words = left_of s.rounds } };
 
-    ghost invariant = { λ s. IsCourse (record { initial = drop s.initial_place s.initial; words = drop s.place s.words }) };
+    ghost invariant = { λ s. IsCourse (record { initial = drop s.initial_place s.initial; words = left_of s.rounds }) };
 }
 
 impl Script {
     /// The script of these actions and words. It takes no memory.
     pub fn of(initial: Items<Action>, words: Words) -> Script
-        requires { IsCourse (record { initial = initial; words = words }) }
-        ensures { result ≡ record { initial = initial; words = words } }
+        requires { IsInitial initial }
+        ensures value { result ≡ record { initial = initial; words = words } }
+        ensures rules { IsCourse result }
     {
         Script {
             initial,
             initial_place: 0,
-            words: words.into_items(),
-            place: 0,
+            rounds: words.into_rounds(),
         }
     }
 
@@ -66,19 +69,57 @@ impl Script {
         ensures time { IfOk result HasTime }
         ensures rules { IsCourse self.now }
     {
-        match self.words.get(self.place) {
+        match first_given(&self.rounds, view) {
             None => Ok(Action::Finish),
-            Some(word) => word.action(alloc, view),
+            Some(word) => Ok(word.action(alloc, view)?.unwrap_or(Action::Finish)),
         }
     }
 
-    /// Passes the next action. It takes no memory.
+    /// Passes the next action; an echo takes the letter that it answered. It takes no memory.
     pub fn advance(&mut self, view: &mut View)
         ensures words { self.new ≡ record self.old { words = words_after self.old.words view.old } }
         ensures view { view.new ≡ view_after self.old.words view.old }
     {
-        if self.place < self.words.len() {
-            self.place += 1;
+        pass_idle(&mut self.rounds, view);
+        pass_given(&mut self.rounds, view);
+    }
+}
+
+// The first word that is left and gives something.
+fn first_given<'a>(rounds: &'a Option<Rounds>, view: &View) -> Option<&'a Word>
+    ensures { option_copied result ≡ find (gives view.now) (left_of rounds.now) }
+{
+    match rounds {
+        None => None,
+        Some(running) => running.first_given(view),
+    }
+}
+
+// Passes the words that give nothing.
+fn pass_idle(rounds: &mut Option<Rounds>, view: &View)
+    ensures { left_of rounds.new ≡ given_from (left_of rounds.old) view.now }
+{
+    while let Some(running) = rounds {
+        if running.first().gives(view) {
+            return;
         }
+        if running.pass() {
+            *rounds = None;
+        }
+    }
+}
+
+// Passes the next word, which gives something: an echo stays and takes a letter.
+fn pass_given(rounds: &mut Option<Rounds>, view: &mut View)
+    ensures words { left_of rounds.new ≡ behind_first (left_of rounds.old) }
+    ensures view { view.new ≡ seen_after view.old (left_of rounds.old) }
+{
+    let Some(running) = rounds else {
+        return;
+    };
+    if let Word::Echo(endpoint) = running.first() {
+        view.take_letter(*endpoint);
+    } else if running.pass() {
+        *rounds = None;
     }
 }

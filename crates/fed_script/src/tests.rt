@@ -1,46 +1,262 @@
-use crate::{Action, Script, View, Word, Words};
-use hel_lists::Items;
-use hel_values::Value;
+use crate::{EndpointNames, Script, View, Word, Words};
+use due_queue::{Content, Item, Message};
+use hel_lists::{Items, OutOfMemory, Text};
+use hel_values::{EndRef, Payload, TextValue, Value};
+use helics_time::{MAX, Stamp};
 use iteration_rules::Mode;
+use std::alloc::Global;
+use std::process::Abort;
 use std::test::Fail;
 
+/// Each endpoint has the name of its federate's number.
+struct Numbers;
+
+impl EndpointNames for Numbers {
+    ghost use Rattle.std.specs.Prelude.{decimal};
+    ghost use Rattle.hel_values.specs.declared.EndRef.{EndRef};
+
+    ghost name_of = { λ names (end : EndRef). decimal end.fed };
+
+    fn name(&self, alloc: Global, endpoint: EndRef) -> Result<Text, OutOfMemory> {
+        let text = format!(in alloc; "{}", endpoint.fed)?;
+        Ok(Text::of(text))
+    }
+}
+
+// The actions that a script gives, one after another with no grant between.
+fn assert_gives(
+    rt: &impl Abort,
+    alloc: Global,
+    script: &mut Script,
+    view: &mut View,
+    wants: &[&str],
+) -> Result<(), Fail> {
+    for want in wants {
+        let action = script.next(alloc, view)?;
+        assert_eq!(rt; format!(in alloc; "{action:?}")?.as_str(), *want);
+        script.advance(view);
+    }
+    Ok(())
+}
+
+fn script_of(alloc: Global, words: Words) -> Script {
+    Script::of(Items::new(alloc), words)
+}
+
+fn item(seq: u64, content: Content) -> Item {
+    Item {
+        source: 7,
+        seq,
+        target: 0,
+        due: Stamp { time: 3, micro: 0 },
+        content,
+    }
+}
+
+fn value(input: u16, value: Value) -> Content {
+    let publication = EndRef { fed: 7, index: 0 };
+    Content::Value {
+        input,
+        publication,
+        value,
+    }
+}
+
+fn message(alloc: Global, fed: u16, endpoint: u16, byte: u8) -> Result<Content, Fail> {
+    let source = EndRef { fed, index: 1 };
+    let destination = EndRef {
+        fed: 0,
+        index: endpoint,
+    };
+    let payload = Payload::of(vec![in alloc; byte]?).ok().ok_or("payload")?;
+    Ok(Content::Message(Message {
+        source,
+        original_source: source,
+        destination,
+        original_destination: destination,
+        time: 3,
+        payload,
+    }))
+}
+
 #[test]
-fn a_script_gives_its_words_and_finishes(rt: HostRuntime) -> Result<(), Fail> {
+fn sums_and_times_stop_at_their_ends(rt: HostRuntime) -> Result<(), Fail> {
+    let text = TextValue::of(String::from_str(rt.alloc(), "9")?)
+        .ok()
+        .ok_or("text")?;
+    let items = [
+        item(0, value(0, Value::Int(i64::MAX - 1))),
+        item(1, value(1, Value::Int(i64::MIN + 1))),
+        item(2, value(2, Value::Text(text))),
+        item(3, value(0, Value::Int(i64::MAX))),
+    ];
     let mut words = Words::new(rt.alloc());
-    words.push(Word::PublishSum {
-        publication: 0,
-        input: 1,
-        add: i64::MAX,
+    for (input, add) in [(0, 1), (1, -2), (2, 4), (3, -5), (4, 6), (0, -7)] {
+        words.push(Word::PublishSum {
+            publication: input,
+            input,
+            add,
+        })?;
+    }
+    for by in [0, 7, 8, MAX] {
+        words.push(Word::Advance(by))?;
+    }
+    let mut view = View::new(rt.alloc(), 4, 0)?;
+    view.take_over(rt.alloc(), &Numbers, MAX - 7, &items)?;
+    let mut script = script_of(rt.alloc(), words);
+    assert_gives(
+        &rt,
+        rt.alloc(),
+        &mut script,
+        &mut view,
+        &[
+            "Publish { publication: 0, value: Int(9223372036854775807) }",
+            "Publish { publication: 1, value: Int(-9223372036854775808) }",
+            "Publish { publication: 2, value: Int(4) }",
+            "Publish { publication: 3, value: Int(-5) }",
+            "Publish { publication: 4, value: Int(6) }",
+            "Publish { publication: 0, value: Int(9223372036854775800) }",
+            "Request { time: 9223372036854775800, mode: Next }",
+            "Request { time: 9223372036854775807, mode: Next }",
+            "Request { time: 9223372036854775807, mode: Next }",
+            "Request { time: 9223372036854775807, mode: Next }",
+            "Finish",
+            "Finish",
+        ],
+    )
+}
+
+#[test]
+fn an_echo_answers_each_letter(rt: HostRuntime) -> Result<(), Fail> {
+    let mut words = Words::new(rt.alloc());
+    for endpoint in [1, 2, 0, 1] {
+        words.push(Word::Echo(endpoint))?;
+    }
+    words.push(Word::Iterate {
+        time: 5,
+        mode: Mode::Force,
     })?;
-    words.push(Word::Advance(7))?;
-    let mut view = View::new(rt.alloc(), 2)?;
-    let mut script = Script::of(Items::new(rt.alloc()), words);
-    let sum = script.next(rt.alloc(), &view)?;
-    assert!(rt;
-        matches!(
-            &sum,
-            Action::Publish {
-                publication: 0,
-                value: Value::Int(i64::MAX)
-            }
-        )
-    );
-    script.advance(&mut view);
-    view.take_over(rt.alloc(), 30, &[])?;
-    let request = script.next(rt.alloc(), &view)?;
-    assert!(rt;
-        matches!(
-            &request,
-            Action::Request {
-                time: 37,
-                mode: Mode::Next
-            }
-        )
-    );
+    words.push(Word::Echo(0))?;
+    let mut view = View::new(rt.alloc(), 0, 2)?;
+    let items = [
+        item(0, message(rt.alloc(), 4, 0, 10)?),
+        item(1, message(rt.alloc(), 5, 1, 11)?),
+        item(2, message(rt.alloc(), 6, 0, 12)?),
+        item(3, message(rt.alloc(), 7, 2, 13)?),
+    ];
+    view.take_over(rt.alloc(), &Numbers, 3, &items)?;
+    let mut script = script_of(rt.alloc(), words);
+    assert_gives(
+        &rt,
+        rt.alloc(),
+        &mut script,
+        &mut view,
+        &[
+            "Send { endpoint: 1, destination: Text { text: \"5\" }, payload: Payload { bytes: [11] } }",
+            "Send { endpoint: 0, destination: Text { text: \"4\" }, payload: Payload { bytes: [10] } }",
+            "Send { endpoint: 0, destination: Text { text: \"6\" }, payload: Payload { bytes: [12] } }",
+            "Request { time: 5, mode: Force }",
+        ],
+    )?;
+    let more = [item(4, message(rt.alloc(), 6, 0, 14)?)];
+    view.take_over(rt.alloc(), &Numbers, 3, &more)?;
+    assert_gives(
+        &rt,
+        rt.alloc(),
+        &mut script,
+        &mut view,
+        &[
+            "Send { endpoint: 0, destination: Text { text: \"6\" }, payload: Payload { bytes: [14] } }",
+            "Finish",
+            "Finish",
+        ],
+    )
+}
+
+// So many repeats round a body, one round another.
+fn nested(alloc: Global, depth: u32, times: u32, body: Words) -> Result<Words, Fail> {
+    let mut inner = body;
+    for _ in 0..depth {
+        let mut outer = Words::new(alloc);
+        outer.push_repeat(times, inner)?;
+        inner = outer;
+    }
+    Ok(inner)
+}
+
+#[test]
+fn repeats_give_their_body_so_often(rt: HostRuntime) -> Result<(), Fail> {
+    let mut body = Words::new(rt.alloc());
+    body.push(Word::Request(1))?;
+    let mut words = nested(rt.alloc(), 1, 2, body)?;
+    words.push(Word::Request(2))?;
+    let mut words = nested(rt.alloc(), 1, 2, words)?;
+    words.push_repeat(9, Words::new(rt.alloc()))?;
+    let mut none = Words::new(rt.alloc());
+    none.push(Word::Finish)?;
+    words.push_repeat(0, none)?;
+    words.push(Word::Request(3))?;
+    assert_eq!(rt; words.count(), 7);
+    let mut view = View::new(rt.alloc(), 0, 0)?;
+    let mut script = script_of(rt.alloc(), words);
+    assert_gives(
+        &rt,
+        rt.alloc(),
+        &mut script,
+        &mut view,
+        &[
+            "Request { time: 1, mode: Next }",
+            "Request { time: 1, mode: Next }",
+            "Request { time: 2, mode: Next }",
+            "Request { time: 1, mode: Next }",
+            "Request { time: 1, mode: Next }",
+            "Request { time: 2, mode: Next }",
+            "Request { time: 3, mode: Next }",
+            "Finish",
+        ],
+    )
+}
+
+#[test]
+fn a_million_times_eight_deep(rt: HostRuntime) -> Result<(), Fail> {
+    let mut view = View::new(rt.alloc(), 0, 1)?;
+    let empty = nested(rt.alloc(), 8, 1_000_000, Words::new(rt.alloc()))?;
+    assert_eq!(rt; empty.count(), 0);
+    let mut script = script_of(rt.alloc(), empty);
+    assert_gives(
+        &rt,
+        rt.alloc(),
+        &mut script,
+        &mut view,
+        &["Finish", "Finish"],
+    )?;
+    let mut body = Words::new(rt.alloc());
+    body.push(Word::Echo(0))?;
+    body.push(Word::Echo(1))?;
+    let mut idle = nested(rt.alloc(), 1, 1_000_000, body)?;
+    assert_eq!(rt; idle.count(), 2_000_000);
+    idle.push(Word::Request(1))?;
+    let mut script = script_of(rt.alloc(), idle);
+    assert_gives(
+        &rt,
+        rt.alloc(),
+        &mut script,
+        &mut view,
+        &["Request { time: 1, mode: Next }", "Finish"],
+    )?;
+    let mut body = Words::new(rt.alloc());
+    body.push(Word::Request(1))?;
+    let many = nested(rt.alloc(), 8, 1_000_000, body)?;
+    assert_eq!(rt; many.count(), u64::MAX);
+    let mut script = script_of(rt.alloc(), many);
     for _ in 0..3 {
-        script.advance(&mut view);
-        let end = script.next(rt.alloc(), &view)?;
-        assert!(rt; matches!(&end, Action::Finish));
+        assert_gives(
+            &rt,
+            rt.alloc(),
+            &mut script,
+            &mut view,
+            &["Request { time: 1, mode: Next }"],
+        )?;
     }
     Ok(())
 }

@@ -1,7 +1,10 @@
-ghost use Rattle.std.specs.Prelude.{◌≡◌, IfOk};
-ghost use Rattle.fed_script.specs.Script.{HasTime, NamesTime, action_of};
+ghost use Rattle.std.specs.Prelude.{◌≡◌, IfOk, is_some};
+ghost use Rattle.std.specs.Bool.{then_some};
+ghost use Rattle.std.specs.Option.{option_copied};
+ghost use Rattle.fed_script.specs.Script.{action_of, answer_to, gives};
 
 use crate::{Action, View};
+use endpoint_messages::Letter;
 use hel_lists::{Copied, OutOfMemory, Text};
 use hel_values::{Payload, TextValue, Value};
 use iteration_rules::Mode;
@@ -28,6 +31,8 @@ pub enum Word {
         destination: Text,
         payload: Payload,
     },
+    /// Sends the payload of each letter of this endpoint back to its source, the oldest first.
+    Echo(u16),
     /// Requests this time.
     Request(u64),
     /// Requests the time that is so much after the present one, and at most MAX.
@@ -43,43 +48,74 @@ pub enum Word {
 }
 
 impl Word {
-    /// What the word gives over a view.
-    pub(crate) fn action(&self, alloc: Global, view: &View) -> Result<Action, OutOfMemory>
-        ensures value { IfOk result (λ action. action ≡ action_of view.now self.now) }
-        ensures time { NamesTime self.now → IfOk result HasTime }
+    /// Whether the word gives anything over a view.
+    pub(crate) fn gives(&self, view: &View) -> bool
+        ensures { result ≡ gives view.now self.now }
     {
         match self {
-            Word::Publish { publication, value } => Ok(Action::Publish {
+            Word::Echo(endpoint) => view.oldest(*endpoint).is_some(),
+            _ => true,
+        }
+    }
+
+    /// The word, where it gives something over a view.
+    pub(crate) fn if_given(&self, view: &View) -> Option<&Word>
+        ensures { option_copied result ≡ then_some (gives view.now self.now) self.now }
+    {
+        if self.gives(view) { Some(self) } else { None }
+    }
+
+    /// What the word gives over a view.
+    pub(crate) fn action(&self, alloc: Global, view: &View) -> Result<Option<Action>, OutOfMemory>
+        ensures { IfOk result (λ action. action ≡ action_of view.now self.now) }
+    {
+        match self {
+            Word::Publish { publication, value } => Ok(Some(Action::Publish {
                 publication: *publication,
                 value: value.copy(alloc)?,
-            }),
+            })),
             Word::PublishSum {
                 publication,
                 input,
                 add,
-            } => Ok(Action::Publish {
+            } => Ok(Some(Action::Publish {
                 publication: *publication,
                 value: Value::Int(view.integer(*input).saturating_add(*add)),
-            }),
+            })),
             Word::Send {
                 endpoint,
                 destination,
                 payload,
-            } => Ok(Action::Send {
-                endpoint: *endpoint,
-                destination: destination.copy(alloc)?,
-                payload: payload.copy(alloc)?,
-            }),
-            Word::Request(time) => Ok(next_step(*time)),
-            Word::Advance(by) => Ok(next_step(view.later(*by))),
-            Word::Iterate { time, mode } => Ok(Action::Request {
+            } => Ok(Some(send(alloc, *endpoint, destination, payload)?)),
+            Word::Echo(endpoint) => match view.oldest(*endpoint) {
+                None => Ok(None),
+                Some(letter) => Ok(Some(send(alloc, *endpoint, &letter.source, &letter.payload)?)),
+            },
+            Word::Request(time) => Ok(Some(next_step(*time))),
+            Word::Advance(by) => Ok(Some(next_step(view.later(*by)))),
+            Word::Iterate { time, mode } => Ok(Some(Action::Request {
                 time: *time,
                 mode: *mode,
-            }),
-            Word::Finish => Ok(Action::Finish),
-            Word::Fail(text) => Ok(Action::Fail(text.copy(alloc)?)),
+            })),
+            Word::Finish => Ok(Some(Action::Finish)),
+            Word::Fail(text) => Ok(Some(Action::Fail(text.copy(alloc)?))),
         }
     }
+}
+
+fn send(
+    alloc: Global,
+    endpoint: u16,
+    destination: &Text,
+    payload: &Payload,
+) -> Result<Action, OutOfMemory>
+    ensures { IfOk result (λ action. action ≡ Action.Send endpoint destination.now payload.now) }
+{
+    Ok(Action::Send {
+        endpoint,
+        destination: destination.copy(alloc)?,
+        payload: payload.copy(alloc)?,
+    })
 }
 
 fn next_step(time: u64) -> Action

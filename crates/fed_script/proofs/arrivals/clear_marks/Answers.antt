@@ -3,7 +3,7 @@ use Rattle.std.proofs.Common.{◌≡◌, ◌+◌, ◌∙◌, ap, sym, add-one, a
 use Rattle.std.specs.Prelude.{slice_set}
 use Rattle.value_updates.specs.Input.{Input, after, starts_grant, opening}
 use Rattle.fed_script.proofs.Lists.{changed, changed_next, changed_all, changed_length}
-use Rattle.fed_script.proofs.view.clear_marks.Goals as goal
+use Rattle.fed_script.proofs.arrivals.clear_marks.Goals as goal
 
 pub loop-place-preserved : goal.loop-place-preserved
 loop-place-preserved c =

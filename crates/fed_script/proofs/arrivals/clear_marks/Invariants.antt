@@ -1,7 +1,7 @@
 use Rattle.std.proofs.Common.{◌≡◌, length}
 use Rattle.value_updates.specs.Input.{Input, after, starts_grant}
 use Rattle.fed_script.proofs.Lists.{changed}
-use Rattle.fed_script.proofs.view.clear_marks.Given as goal
+use Rattle.fed_script.proofs.arrivals.clear_marks.Given as goal
 
 abbrev pub invariant-loop-place : goal.invariant-loop-place
 invariant-loop-place l =
