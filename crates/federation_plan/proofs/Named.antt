@@ -12,7 +12,7 @@ use Rattle.interface_names.specs.Names.{global_name_of}
 use Rattle.federation_plan.specs.Called.{known_as}
 use Rattle.hel_values.specs.declared.EndRef.{EndRef}
 use Rattle.interface_names.specs.declared.records.FederateRecord.{FederateRecord}
-use Rattle.federation_plan.specs.Interfaces.{Interface, interfaces_in, interfaces_from, named, federate_at, blank_federate}
+use Rattle.federation_plan.specs.Interfaces.{Interface, one_in, interfaces_in, interfaces_from, named, federate_at, blank_federate}
 
 pub option_or_assoc : {A : Type 0} (a b c : Option A) → option_or (option_or a b) c ≡ option_or a (option_or b c)
 option_or_assoc (Some x) b c = refl
@@ -21,10 +21,6 @@ option_or_assoc None b c = refl
 or_none : {A : Type 0} (o : Option A) → o ≡ option_or o None
 or_none None = refl
 or_none (Some x) = refl
-
--- the interface of this number of a federate
-abbrev pub one_in : {A : Type 0} → List ℕ → ℕ → ℕ → A → Interface A
-one_in owner f n x = record { owner = owner; ref = record { fed = f; index = n }; item = x }
 
 -- those from number n on are the one of that number and those behind it
 pub rest_in : {A : Type 0} (owner : List ℕ) (f n : ℕ) (xs : List A) (d : A) → n < length xs →

@@ -20,10 +20,14 @@ pub record Interface (A : Type 0) : Type 0 where
   pub ref : EndRef
   pub item : A
 
+-- the one of number n of federate f
+abbrev pub one_in : {A : Type 0} → List ℕ → ℕ → ℕ → A → Interface A
+one_in owner f n x = record { owner = owner; ref = record { fed = f; index = n }; item = x }
+
 -- those of federate f, from number n on
 abbrev pub interfaces_in : {A : Type 0} → List ℕ → ℕ → ℕ → List A → List (Interface A)
 interfaces_in owner f n [] = []
-interfaces_in owner f n (x ∷ xs) = record { owner = owner; ref = record { fed = f; index = n }; item = x } ∷ interfaces_in owner f (suc n) xs
+interfaces_in owner f n (x ∷ xs) = one_in owner f n x ∷ interfaces_in owner f (suc n) xs
 
 -- those of one kind of all federates, from number f on
 abbrev pub interfaces_from : {A : Type 0} → (FederateRecord → List A) → ℕ → List FederateRecord → List (Interface A)
@@ -100,8 +104,7 @@ publication_at feds p = slice_index_or (federate_at feds p.fed).publications p.i
 
 -- the endpoint of a reference
 abbrev pub endpoint_at : List FederateRecord → EndRef → Interface EndRecord
-endpoint_at feds e =
-    record { owner = (federate_at feds e.fed).name; ref = e; item = slice_index_or (federate_at feds e.fed).endpoints e.index blank_endpoint }
+endpoint_at feds e = one_in (federate_at feds e.fed).name e.fed e.index (slice_index_or (federate_at feds e.fed).endpoints e.index blank_endpoint)
 
 -- a reference is that of a publication, of an endpoint
 abbrev pub IsPublication : List FederateRecord → EndRef → Type 0
@@ -114,3 +117,10 @@ IsEndpoint feds e = e.index < length (federate_at feds e.fed).endpoints
 pub record AreFew (feds : List FederateRecord) : Type 0 where
   pub federates : length feds ≤ most_federates
   pub interfaces : (f : ℕ) → interface_count (federate_at feds f) ≤ most_interfaces
+
+-- each name that means something means a publication, an endpoint of these federates
+abbrev pub ArePublications : List FederateRecord → (List ℕ → Option EndRef) → Type 0
+ArePublications feds meaning = (name : List ℕ) (p : EndRef) → meaning name ≡ Some p → IsPublication feds p
+
+abbrev pub AreEndpoints : List FederateRecord → (List ℕ → Option EndRef) → Type 0
+AreEndpoints feds meaning = (name : List ℕ) (e : EndRef) → meaning name ≡ Some e → IsEndpoint feds e

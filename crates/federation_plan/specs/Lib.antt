@@ -1,3 +1,5 @@
 pub mod Called
+pub mod Chains
 pub mod Interfaces
+pub mod Refusal
 pub mod Tree

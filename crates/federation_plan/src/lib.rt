@@ -2,6 +2,8 @@
 #![tactic(auto)]
 
 mod names;
+mod refusal;
 mod tree;
 
+pub use refusal::PlanRefusal;
 pub use tree::{NODE_LIMIT, NodeKind, NodeRow, Tree};

@@ -1,0 +1,9 @@
+use Rattle.std.specs.HashMap.{get_by_text}
+use Rattle.federation_plan.specs.Interfaces.{inputs}
+use Rattle.federation_plan.specs.Refusal.{first_some, missing_at}
+use Rattle.federation_plan.proofs.Firsts.{IsLeftFrom}
+use Rattle.federation_plan.proofs.refusal.check_required.Given as goal
+
+abbrev pub invariant-loop-f : goal.invariant-loop-f
+invariant-loop-f l = IsLeftFrom (λ fed. fed.inputs) (missing_at (get_by_text l.publications))
+    (first_some (missing_at (get_by_text l.publications)) (inputs l.federates)) l.f l.federates
