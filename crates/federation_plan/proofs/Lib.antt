@@ -1,3 +1,4 @@
+pub mod Attached
 pub mod Firsts
 pub mod Lists
 pub mod Named

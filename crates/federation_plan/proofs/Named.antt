@@ -3,8 +3,8 @@ use Rattle.std.proofs.Common.{◌≡◌, ◌⊎◌, inl, inr, ℕ, zero, suc, �
 use Rattle.std.specs.Prelude.{if◌then◌else◌, is_some}
 use Rattle.std.specs.Option.{option_or}
 use Rattle.std.specs.Str.{bytes_eq}
-use Rattle.std.proofs.lemmas.List.{drop_all}
-use Rattle.std.proofs.lemmas.Bool.{cases_Bool, true≢false}
+use Rattle.std.proofs.lemmas.List.{drop_all, get_or_past}
+use Rattle.std.proofs.lemmas.Bool.{cases_Bool, cases_lt, true≢false}
 use Rattle.std.proofs.lemmas.Slice.Eq.{bytes_eq-Decides}
 use Rattle.std.specs.Map.{update}
 use Rattle.interface_names.specs.Federate.{OwnName}
@@ -137,3 +137,12 @@ text_put before after key at absent updates q = elim (cases_Bool (bytes_eq key q
     none_at : (o : Option EndRef) → is_some o ≡ false → o ≡ None
     none_at None h = refl
     none_at (Some x) h = absurd (true≢false h)
+
+-- who has an interface is a federate
+pub federate_within : {A : Type 0} (kind : FederateRecord → List A) (feds : List FederateRecord) (f n : ℕ) → kind blank_federate ≡ [] → n < length (kind (federate_at feds f)) → f < length feds
+federate_within {A} kind feds f n none some = elim (cases_lt f (length feds)) [
+  | inl below ↦ below
+  | inr past ↦
+      let blank : length (kind (federate_at feds f)) ≡ 0 = ap (λ (x : FederateRecord). length (kind x)) (get_or_past feds f blank_federate past) ∙ ap (λ (l : List A). length l) none in
+      absurd (omega arith)
+]

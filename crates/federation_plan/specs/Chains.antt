@@ -1,6 +1,6 @@
 -- The filters that stand on an endpoint, and what they make of a message.
 use Rattle.std.specs.Prelude.{ℕ, ◌+◌, Bool, false, nat_lt, ◌||◌, not, List, [], ◌∷◌, map, length, Option, None, Some, unwrap_or}
-use Rattle.std.specs.List.{filter, filter_map}
+use Rattle.std.specs.List.{filter_map}
 use Rattle.hel_values.specs.declared.EndRef.{EndRef}
 use Rattle.interface_names.specs.declared.records.EndRecord.{EndRecord}
 use Rattle.interface_names.specs.declared.records.FilterKind.{FilterKind}
@@ -13,7 +13,7 @@ use Rattle.message_filters.specs.declared.chain.Filtered.{Filtered}
 use Rattle.message_filters.specs.declared.chain.Filtered.TheVariants.{Kept, Dropped}
 use Rattle.message_filters.specs.Filter.{reroute_of}
 use Rattle.message_filters.specs.Chain.{filtered_of, last_of}
-use Rattle.federation_plan.specs.Interfaces.{Interface, name_ref, endpoint_of, endpoint_at, filters}
+use Rattle.federation_plan.specs.Interfaces.{Interface, name_ref, naming, endpoint_of, endpoint_at, filters}
 
 -- the two sides on which a filter may stand
 abbrev pub sources : FilterTerms → List (List ℕ)
@@ -21,10 +21,6 @@ sources t = t.source_of
 
 abbrev pub destinations : FilterTerms → List (List ℕ)
 destinations t = t.destination_of
-
--- those of these filters that stand on one side of an endpoint, each once, in order
-abbrev pub standing : (List ℕ → Option EndRef) → (FilterTerms → List (List ℕ)) → List (Interface FilterTerms) → EndRef → List (Interface FilterTerms)
-standing meaning side all e = filter (λ i. name_ref meaning (side i.item) e) all
 
 -- a filter as a chain has it; in a plan the name of a reroute means an endpoint
 abbrev pub filter_of : (List ℕ → Option EndRef) → FilterKind → Filter
@@ -34,7 +30,7 @@ filter_of meaning (Reroute name) = Rerouting (unwrap_or (meaning name) (record {
 
 -- the chain of a side
 abbrev pub chain_on : (FilterTerms → List (List ℕ)) → List FederateRecord → EndRef → List Filter
-chain_on side feds e = map (λ i. filter_of (endpoint_of feds) i.item.kind) (standing (endpoint_of feds) side (filters feds) e)
+chain_on side feds e = map (λ i. filter_of (endpoint_of feds) i.item.kind) (naming (endpoint_of feds) side (filters feds) e)
 
 unfoldable pub source_chain : List FederateRecord → EndRef → List Filter
 source_chain feds e = chain_on sources feds e

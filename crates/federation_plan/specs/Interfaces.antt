@@ -1,6 +1,6 @@
 -- The interfaces of a federation, and their names.
-use Rattle.std.specs.Prelude.{ℕ, suc, ◌≡◌, ◌<◌, ◌≤◌, Bool, false, nat_eq, ◌&&◌, length, List, [], ◌∷◌, ◌++◌, Option, None, Some, if◌then◌else◌, slice_index_or}
-use Rattle.std.specs.List.{list_any}
+use Rattle.std.specs.Prelude.{ℕ, suc, ◌≡◌, ◌<◌, ◌≤◌, Bool, false, nat_eq, ◌&&◌, map, length, List, [], ◌∷◌, ◌++◌, Option, None, Some, if◌then◌else◌, slice_index_or}
+use Rattle.std.specs.List.{list_any, filter}
 use Rattle.std.specs.Str.{bytes_eq}
 use Rattle.hel_values.specs.declared.EndRef.{EndRef}
 use Rattle.hel_values.specs.declared.ValueKind.TheVariants.{Int}
@@ -84,6 +84,13 @@ name_ref meaning names r = list_any (λ name. is_ref r (meaning name)) names
 
 abbrev pub name_fed : (List ℕ → Option EndRef) → List (List ℕ) → ℕ → Bool
 name_fed meaning names f = list_any (λ name. is_of f (meaning name)) names
+
+-- those of these interfaces that name an interface, each once, in order
+abbrev pub naming : {A : Type 0} → (List ℕ → Option EndRef) → (A → List (List ℕ)) → List (Interface A) → EndRef → List (Interface A)
+naming meaning names all r = filter (λ i. name_ref meaning (names i.item) r) all
+
+abbrev pub refs_naming : {A : Type 0} → (List ℕ → Option EndRef) → (A → List (List ℕ)) → List (Interface A) → EndRef → List EndRef
+refs_naming meaning names all r = map (λ i. i.ref) (naming meaning names all r)
 
 -- stand where there is no such federate or interface
 abbrev pub blank_federate : FederateRecord

@@ -2,4 +2,5 @@ pub mod Called
 pub mod Chains
 pub mod Interfaces
 pub mod Refusal
+pub mod Tables
 pub mod Tree

@@ -13,8 +13,8 @@ use Rattle.interface_names.specs.Filter.{FilterTerms}
 use Rattle.message_filters.specs.Limits.{most_filters}
 use Rattle.federation_plan.specs.declared.refusal.PlanRefusal.{PlanRefusal}
 use Rattle.federation_plan.specs.declared.refusal.PlanRefusal.TheVariants.{NoFederates, MissingRequired, KindMismatch, FilterTarget, ChainTooLong, OutOfMemory}
-use Rattle.federation_plan.specs.Interfaces.{Interface, publication_at, publication_of, endpoint_of, inputs, endpoints, filters}
-use Rattle.federation_plan.specs.Chains.{standing, sources, destinations}
+use Rattle.federation_plan.specs.Interfaces.{Interface, naming, publication_at, publication_of, endpoint_of, inputs, endpoints, filters}
+use Rattle.federation_plan.specs.Chains.{sources, destinations}
 
 -- the first answer that one of the list gives
 abbrev pub first_some : {A B : Type 0} → (A → Option B) → List A → Option B
@@ -65,7 +65,7 @@ target_at meaning i =
 -- an endpoint with too many filters on one side
 abbrev pub too_long_at : (List ℕ → Option EndRef) → List (Interface FilterTerms) → Interface EndRecord → Option PlanRefusal
 too_long_at meaning all e =
-    if nat_lt most_filters (length (standing meaning sources all e.ref)) || nat_lt most_filters (length (standing meaning destinations all e.ref))
+    if nat_lt most_filters (length (naming meaning sources all e.ref)) || nat_lt most_filters (length (naming meaning destinations all e.ref))
     then Some (ChainTooLong e.ref) else None
 
 abbrev pub none_at_all : List FederateRecord → Option PlanRefusal

@@ -3,6 +3,7 @@
 
 mod names;
 mod refusal;
+mod tables;
 mod tree;
 
 pub use refusal::PlanRefusal;
