@@ -3,13 +3,14 @@ ghost use Rattle.std.specs.HashMap.{get_by_text};
 ghost use Rattle.hel_lists.specs.Members.{IsIn};
 ghost use Rattle.interface_names.specs.Limits.{most_interfaces};
 ghost use Rattle.hel_values.specs.declared.EndRef.{EndRef};
-ghost use Rattle.federation_plan.specs.Interfaces.{AreFew, ArePublications, is_ref, same_ref, name_ref, refs_naming, interfaces_in, inputs, federate_at};
+ghost use Rattle.federation_plan.specs.Interfaces.{AreFew, ArePublications, AreEndpoints, is_ref, same_ref, name_ref, refs_naming, interfaces_in, inputs, filters, federate_at};
+ghost use Rattle.federation_plan.specs.Side.{names_on as names_on_side};
 ghost use Rattle.federation_plan.specs.Tables.{row_at, entry, HasPlace, ends_with, with_last};
 
 use crate::names::Names;
 use hel_lists::{Items, OutOfMemory, Text};
 use hel_values::EndRef;
-use interface_names::{FederateRecord, InputRecord};
+use interface_names::{FederateRecord, FilterRecord, InputRecord};
 use std::alloc::Global;
 
 /// For each federate and each of its interfaces of one kind, references to others.
@@ -86,6 +87,94 @@ fn attach_inputs_of(
         attach(table, publications, by, input.targets.as_slice())?;
     }
     Ok(())
+}
+
+/// A side of an endpoint: filters stand there for what it sends, or for what it receives.
+#[derive(Clone, Copy, Debug)]
+pub(crate) enum Side {
+    Source,
+    Destination,
+}
+
+/// For each endpoint the filters that stand on one side of it, in the order of federates and
+/// filters.
+pub(crate) fn filters_table(
+    alloc: Global,
+    side: Side,
+    endpoints: &Names,
+    federates: &[FederateRecord],
+) -> Result<Table, OutOfMemory>
+    requires few { AreFew federates.now }
+    requires known { AreEndpoints federates.now (get_by_text endpoints.now) }
+    ensures places { IfOk result (λ table. (f : ℕ) → length (row_at table f) ≡ length (federate_at federates.now f).endpoints) }
+    ensures entries { IfOk result (λ table. (r : EndRef) → entry table r
+        ≡ refs_naming (get_by_text endpoints.now) (names_on_side side) (filters federates.now) r) }
+{
+    let mut table = Items::new(alloc);
+    for federate in federates {
+        table.push(blank_row(alloc, federate.endpoints.len())?)?;
+    }
+    attach_filters(&mut table, side, endpoints, federates)?;
+    Ok(table)
+}
+
+fn attach_filters(
+    table: &mut Table,
+    side: Side,
+    endpoints: &Names,
+    federates: &[FederateRecord],
+) -> Result<(), OutOfMemory>
+    requires few { AreFew federates.now }
+    requires places { (name : List ℕ) (r : EndRef) → get_by_text endpoints.now name ≡ Some r → HasPlace table.old r }
+    requires blank { (r : EndRef) → entry table.old r ≡ [] }
+    ensures places { OnOk result ((f : ℕ) → length (row_at table.new f) ≡ length (row_at table.old f)) }
+    ensures entries { OnOk result ((r : EndRef) → entry table.new r
+        ≡ refs_naming (get_by_text endpoints.now) (names_on_side side) (filters federates.now) r) }
+{
+    for (f, federate) in federates.iter().enumerate() {
+        attach_filters_of(
+            table,
+            side,
+            endpoints,
+            f as u16,
+            federate.filters.as_slice(),
+        )?;
+    }
+    Ok(())
+}
+
+fn attach_filters_of(
+    table: &mut Table,
+    side: Side,
+    endpoints: &Names,
+    f: u16,
+    filters: &[FilterRecord],
+) -> Result<(), OutOfMemory>
+    requires few { length filters.now ≤ most_interfaces }
+    requires places { (name : List ℕ) (r : EndRef) → get_by_text endpoints.now name ≡ Some r → HasPlace table.old r }
+    requires earlier { (r q : EndRef) → IsIn q (entry table.old r) → q.fed < f }
+    ensures places { OnOk result ((g : ℕ) → length (row_at table.new g) ≡ length (row_at table.old g)) }
+    ensures entries { OnOk result ((owner : List ℕ) (r : EndRef) → entry table.new r
+        ≡ entry table.old r ++ refs_naming (get_by_text endpoints.now) (names_on_side side) (interfaces_in owner f 0 filters.now) r) }
+{
+    for (index, filter) in filters.iter().enumerate() {
+        let by = EndRef {
+            fed: f,
+            index: index as u16,
+        };
+        attach(table, endpoints, by, names_on(side, filter))?;
+    }
+    Ok(())
+}
+
+// The endpoints on whose side a filter stands.
+fn names_on(side: Side, filter: &FilterRecord) -> &[Text]
+    ensures { result.now ≡ names_on_side side filter.now }
+{
+    match side {
+        Side::Source => filter.source_of.as_slice(),
+        Side::Destination => filter.destination_of.as_slice(),
+    }
 }
 
 // Puts a reference at each interface that one of the names means.
