@@ -1,6 +1,6 @@
 -- Lists and their members.
 use Rattle.std.proofs.Common.{◌≡◌, ◌⊎◌, inl, inr, ℕ, zero, suc, ◌+◌, ◌<◌, ◌≤◌, List, [], ◌∷◌, ◌++◌, length, get_or, take, arith, refl, sym, ◌∙◌, ap, subst}
-use Rattle.std.proofs.lemmas.List.{take_more}
+use Rattle.std.proofs.lemmas.List.{take_more, get_or_default}
 use Rattle.hel_lists.specs.Members.{IsIn, Each}
 
 -- the item at a place is a member
@@ -31,3 +31,7 @@ each_more P xs i d below first next x among = elim (in_append (take i xs) (get_o
   | inl before ↦ first x before
   | inr last ↦ elim last [ inl here ↦ subst P (sym here) next | inr none ↦ absurd none ]
 ]
+
+-- within a list the item for past ends doesn't matter
+pub own_default : {A : Type 0} (xs : List A) (k : ℕ) (d : A) → k < length xs → get_or xs k d ≡ get_or xs k (get_or xs k d)
+own_default xs k d below = get_or_default xs k d (get_or xs k d) below

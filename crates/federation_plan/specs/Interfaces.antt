@@ -8,6 +8,7 @@ use Rattle.machine_laws.specs.Machine.{default_terms}
 use Rattle.interface_names.specs.declared.records.PubRecord.{PubRecord}
 use Rattle.interface_names.specs.declared.records.InputRecord.{InputRecord}
 use Rattle.interface_names.specs.declared.records.EndRecord.{EndRecord}
+use Rattle.interface_names.specs.declared.records.FilterKind.TheVariants.{Delay}
 use Rattle.interface_names.specs.declared.records.FederateRecord.{FederateRecord}
 use Rattle.interface_names.specs.Filter.{FilterTerms}
 use Rattle.interface_names.specs.Names.{global_name_of}
@@ -113,12 +114,21 @@ publication_at feds p = slice_index_or (federate_at feds p.fed).publications p.i
 abbrev pub endpoint_at : List FederateRecord → EndRef → Interface EndRecord
 endpoint_at feds e = one_in (federate_at feds e.fed).name e.fed e.index (slice_index_or (federate_at feds e.fed).endpoints e.index blank_endpoint)
 
--- a reference is that of a publication, of an endpoint
+abbrev pub blank_filter : FilterTerms
+blank_filter = record { name = None; source_of = []; destination_of = []; kind = Delay 0 }
+
+abbrev pub filter_at : List FederateRecord → EndRef → FilterTerms
+filter_at feds r = slice_index_or (federate_at feds r.fed).filters r.index blank_filter
+
+-- a reference is that of a publication, of an endpoint, of a filter
 abbrev pub IsPublication : List FederateRecord → EndRef → Type 0
 IsPublication feds p = p.index < length (federate_at feds p.fed).publications
 
 abbrev pub IsEndpoint : List FederateRecord → EndRef → Type 0
 IsEndpoint feds e = e.index < length (federate_at feds e.fed).endpoints
+
+abbrev pub IsFilter : List FederateRecord → EndRef → Type 0
+IsFilter feds r = r.index < length (federate_at feds r.fed).filters
 
 -- federates and interfaces are no more than a federation may have
 pub record AreFew (feds : List FederateRecord) : Type 0 where

@@ -1,6 +1,7 @@
 //! The plan of a federation: its tree, its federates, and which of them reach which.
 #![tactic(auto)]
 
+mod chains;
 mod names;
 mod refusal;
 mod tables;
