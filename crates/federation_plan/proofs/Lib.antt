@@ -1,4 +1,5 @@
 pub mod Attached
 pub mod Firsts
+pub mod Joined
 pub mod Lists
 pub mod Named

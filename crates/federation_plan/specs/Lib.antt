@@ -1,6 +1,8 @@
 pub mod Called
 pub mod Chains
+pub mod Depends
 pub mod Interfaces
+pub mod Links
 pub mod Refusal
 pub mod Side
 pub mod Tables

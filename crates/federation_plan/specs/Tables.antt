@@ -56,3 +56,7 @@ blank_chains = record { source = []; destination = [] }
 -- what stands at an endpoint
 abbrev pub chains_at : List (List EndChains) → EndRef → EndChains
 chains_at table e = slice_index_or (row_at table e.fed) e.index blank_chains
+
+-- the endpoint of the last reroute, where there is one
+abbrev pub rerouted_at : List (List (Option EndRef)) → EndRef → Option EndRef
+rerouted_at table e = slice_index_or (row_at table e.fed) e.index None

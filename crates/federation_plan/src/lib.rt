@@ -2,6 +2,7 @@
 #![tactic(auto)]
 
 mod chains;
+mod links;
 mod names;
 mod refusal;
 mod tables;

@@ -1,0 +1,40 @@
+-- Which federates depend on which.
+use Rattle.std.specs.Prelude.{ℕ, Bool, false, nat_eq, nat_lt, ◌&&◌, ◌||◌, length, List, [], ◌∷◌, Option, None, Some, if◌then◌else◌}
+use Rattle.std.specs.List.{list_any}
+use Rattle.hel_values.specs.declared.EndRef.{EndRef}
+use Rattle.interface_names.specs.declared.records.InputRecord.{InputRecord}
+use Rattle.interface_names.specs.declared.records.EndRecord.{EndRecord}
+use Rattle.interface_names.specs.declared.records.FederateRecord.{FederateRecord}
+use Rattle.message_filters.specs.declared.filter.Filter.{Filter}
+use Rattle.message_filters.specs.Chain.{last_of}
+use Rattle.federation_plan.specs.Interfaces.{Interface, same_ref, is_of, name_fed, publication_of, endpoint_of, inputs, endpoints, federate_at}
+use Rattle.federation_plan.specs.Chains.{allows, reroutes, source_chain}
+
+-- the endpoint of the last reroute of a chain
+abbrev pub last_reroute : List Filter → Option EndRef
+last_reroute chain = last_in (reroutes chain)
+  where
+    last_in : List EndRef → Option EndRef
+    last_in [] = None
+    last_in (r ∷ rs) = Some (last_of r rs)
+
+-- an endpoint reaches that of the last reroute in its source chain, else all to which it may send
+abbrev pub reaches_by : (List ℕ → Option EndRef) → Option EndRef → Interface EndRecord → Interface EndRecord → Bool
+reaches_by meaning None e x = allows meaning e x
+reaches_by meaning (Some r) e x = same_ref x.ref r
+
+abbrev pub reaches : List FederateRecord → Interface EndRecord → Interface EndRecord → Bool
+reaches feds e x = reaches_by (endpoint_of feds) (last_reroute (source_chain feds e.ref)) e x
+
+-- an input of f targets a publication of a
+abbrev pub by_value : List FederateRecord → ℕ → ℕ → Bool
+by_value feds a f = list_any (λ i. nat_eq f i.ref.fed && name_fed (publication_of feds) i.item.targets a) (inputs feds)
+
+-- an endpoint of a reaches one of f
+abbrev pub by_message : List FederateRecord → ℕ → ℕ → Bool
+by_message feds a f =
+    list_any (λ e. nat_eq a e.ref.fed && list_any (λ x. nat_eq f x.ref.fed && reaches feds e x) (endpoints feds)) (endpoints feds)
+
+-- f depends on a
+unfoldable pub depends : List FederateRecord → ℕ → ℕ → Bool
+depends feds a f = by_value feds a f || by_message feds a f
