@@ -3,3 +3,5 @@ pub mod Firsts
 pub mod Joined
 pub mod Lists
 pub mod Named
+pub mod Places
+pub mod Reroutes

@@ -10,13 +10,14 @@ use Rattle.message_filters.specs.Chain.{last_of}
 use Rattle.federation_plan.specs.Interfaces.{Interface, same_ref, is_of, name_fed, publication_of, endpoint_of, inputs, endpoints, federate_at}
 use Rattle.federation_plan.specs.Chains.{allows, reroutes, source_chain}
 
+-- the last of a list
+abbrev pub last_end : List EndRef → Option EndRef
+last_end [] = None
+last_end (r ∷ rs) = Some (last_of r rs)
+
 -- the endpoint of the last reroute of a chain
 abbrev pub last_reroute : List Filter → Option EndRef
-last_reroute chain = last_in (reroutes chain)
-  where
-    last_in : List EndRef → Option EndRef
-    last_in [] = None
-    last_in (r ∷ rs) = Some (last_of r rs)
+last_reroute chain = last_end (reroutes chain)
 
 -- an endpoint reaches that of the last reroute in its source chain, else all to which it may send
 abbrev pub reaches_by : (List ℕ → Option EndRef) → Option EndRef → Interface EndRecord → Interface EndRecord → Bool

@@ -2,6 +2,7 @@ pub mod Called
 pub mod Chains
 pub mod Depends
 pub mod Interfaces
+pub mod Laws
 pub mod Links
 pub mod Refusal
 pub mod Side

@@ -1,4 +1,4 @@
-ghost use Rattle.std.specs.Prelude.{◌≡◌, ◌≤◌, ◌<◌, ℕ, List, [], length, slice_index_or, unwrap_or, IfOk};
+ghost use Rattle.std.specs.Prelude.{◌≡◌, ◌≤◌, ◌<◌, ℕ, List, [], length, slice_index_or, unwrap_or, None, IfOk};
 ghost use Rattle.std.specs.HashMap.{get_by_text};
 ghost use Rattle.hel_lists.specs.Members.{Each};
 ghost use Rattle.hel_values.specs.declared.EndRef.{EndRef};
@@ -8,8 +8,11 @@ ghost use Rattle.message_filters.specs.Limits.{most_filters};
 ghost use Rattle.federation_plan.specs.Interfaces.{AreFew, IsFilter, federate_at, IsEndpoint, filter_at as filter_at_ref, endpoints, one_in, interfaces_in};
 ghost use Rattle.federation_plan.specs.Chains.{filter_of as filter_by};
 ghost use Rattle.federation_plan.specs.Refusal.{Says, first_some};
-ghost use Rattle.federation_plan.specs.Tables.{row_at, entry, HasPlace, too_long_in, AreLists, chain_by, chains_by, blank_chains, chains_at};
+ghost use Rattle.federation_plan.specs.Tables.{row_at, entry, HasPlace, too_long_in, AreLists, chain_by, chains_by, blank_chains, chains_at, rerouted_at};
+ghost use Rattle.federation_plan.specs.Depends.{last_reroute};
+ghost use Rattle.message_filters.specs.Filter.{reroute_of as reroute_by};
 
+use crate::links::Rerouted;
 use crate::names::Names;
 use crate::refusal::PlanRefusal;
 use crate::tables::Table;
@@ -187,4 +190,73 @@ fn end_of(endpoints: &Names, name: &Text) -> EndRef
 {
     let none = EndRef { fed: 0, index: 0 };
     endpoints.get(name.as_str()).copied().unwrap_or(none)
+}
+
+/// For each endpoint that of the last reroute in its source chain. The table has the filters that
+/// stand there.
+pub(crate) fn rerouted_table(
+    alloc: Global,
+    endpoints: &Names,
+    federates: &[FederateRecord],
+    sources: &Table,
+) -> Result<Rerouted, OutOfMemory>
+    requires few { AreFew federates.now }
+    requires sources { (f : ℕ) → AreLists federates.now (row_at sources.now f) (length (federate_at federates.now f).endpoints) }
+    ensures places { IfOk result (λ table. (f : ℕ) → length (row_at table f) ≡ length (federate_at federates.now f).endpoints) }
+    ensures ends { IfOk result (λ table. (e : EndRef) →
+        rerouted_at table e ≡ last_reroute (chain_by (get_by_text endpoints.now) federates.now (entry sources.now e))) }
+{
+    let mut table = Items::new(alloc);
+    for (f, federate) in federates.iter().enumerate() {
+        let count = federate.endpoints.len();
+        let row = rerouted_row(alloc, endpoints, federates, f as u16, count, sources)?;
+        table.push(row)?;
+    }
+    Ok(table)
+}
+
+fn rerouted_row(
+    alloc: Global,
+    endpoints: &Names,
+    federates: &[FederateRecord],
+    f: u16,
+    count: usize,
+    sources: &Table,
+) -> Result<Items<Option<EndRef>>, OutOfMemory>
+    requires few { count ≤ most_interfaces }
+    requires sources { AreLists federates.now (row_at sources.now f) count }
+    ensures count { IfOk result (λ row. length row ≡ count) }
+    ensures ends { IfOk result (λ row. (n : ℕ) → slice_index_or row n None
+        ≡ last_reroute (chain_by (get_by_text endpoints.now) federates.now (slice_index_or (row_at sources.now f) n []))) }
+{
+    let mut row = Items::new(alloc);
+    for index in 0..count {
+        let at = EndRef {
+            fed: f,
+            index: index as u16,
+        };
+        row.push(last_end(endpoints, federates, list_at(sources, at)))?;
+    }
+    Ok(row)
+}
+
+// The endpoint of the last of these filters that reroutes.
+fn last_end(endpoints: &Names, federates: &[FederateRecord], refs: &[EndRef]) -> Option<EndRef>
+    requires { Each (IsFilter federates.now) refs.now }
+    ensures { result ≡ last_reroute (chain_by (get_by_text endpoints.now) federates.now refs.now) }
+{
+    let mut last = None;
+    for at in refs {
+        last = reroute_of(endpoints, filter_at(federates, *at)).or(last);
+    }
+    last
+}
+
+fn reroute_of(endpoints: &Names, filter: &FilterRecord) -> Option<EndRef>
+    ensures { result ≡ reroute_by (filter_by (get_by_text endpoints.now) filter.now.kind) }
+{
+    match &filter.kind {
+        FilterKind::Reroute(name) => Some(end_of(endpoints, name)),
+        _ => None,
+    }
 }

@@ -2,11 +2,13 @@
 #![tactic(auto)]
 
 mod chains;
+mod laws;
 mod links;
 mod names;
 mod refusal;
 mod tables;
 mod tree;
 
+pub use laws::plan_laws;
 pub use refusal::PlanRefusal;
 pub use tree::{NODE_LIMIT, NodeKind, NodeRow, Tree};
