@@ -1,4 +1,6 @@
+pub mod Accepted
 pub mod Attached
+pub mod Drafts
 pub mod Firsts
 pub mod Joined
 pub mod Lists

@@ -1,5 +1,7 @@
 -- Lists and their members.
-use Rattle.std.proofs.Common.{◌≡◌, ◌⊎◌, inl, inr, ℕ, zero, suc, ◌+◌, ◌<◌, ◌≤◌, List, [], ◌∷◌, ◌++◌, length, get_or, take, arith, refl, sym, ◌∙◌, ap, subst}
+use Rattle.std.proofs.Common.{◌≡◌, ◌⊎◌, inl, inr, ℕ, zero, suc, ◌+◌, ◌<◌, ◌≤◌, List, [], ◌∷◌, ◌++◌, length, get_or, take, arith, refl, sym, ◌∙◌, ap, subst, Bool, true, false}
+use Rattle.std.specs.List.{list_any}
+use Rattle.std.proofs.lemmas.Bool.{or_left, or_right, or_cases, true≢false}
 use Rattle.std.proofs.lemmas.List.{take_more, get_or_default}
 use Rattle.hel_lists.specs.Members.{IsIn, Each}
 
@@ -35,3 +37,24 @@ each_more P xs i d below first next x among = elim (in_append (take i xs) (get_o
 -- within a list the item for past ends doesn't matter
 pub own_default : {A : Type 0} (xs : List A) (k : ℕ) (d : A) → k < length xs → get_or xs k d ≡ get_or xs k (get_or xs k d)
 own_default xs k d below = get_or_default xs k d (get_or xs k d) below
+
+-- a test that some member passes
+pub any_to : {A : Type 0} (p : A → Bool) (xs : List A) (x : A) → IsIn x xs → p x ≡ true → list_any p xs ≡ true
+any_to p [] x among holds = absurd among
+any_to p (y ∷ ys) x among holds = elim among [
+  | inl here ↦ or_left (p y) (list_any p ys) (sym (ap p here) ∙ holds)
+  | inr later ↦ or_right (p y) (list_any p ys) (any_to p ys x later holds)
+]
+
+pub any_from : {A : Type 0} (p : A → Bool) (xs : List A) → list_any p xs ≡ true → (x : A) × IsIn x xs × (p x ≡ true)
+any_from p [] holds = absurd (true≢false (sym holds))
+any_from p (y ∷ ys) holds = elim (or_cases (p y) (list_any p ys) holds) [
+  | inl here ↦ (y, inl refl, here)
+  | inr later ↦ let m = any_from p ys later in (m.0, inr m.1, m.2)
+]
+
+-- tests that hold together are the same
+pub same_test : (x y : Bool) → (x ≡ true → y ≡ true) → (y ≡ true → x ≡ true) → x ≡ y
+same_test true y to from = sym (to refl)
+same_test false true to from = from refl
+same_test false false to from = refl

@@ -1,9 +1,11 @@
 pub mod Called
 pub mod Chains
 pub mod Depends
+pub mod Draft
 pub mod Interfaces
 pub mod Laws
 pub mod Links
+pub mod Plan
 pub mod Refusal
 pub mod Side
 pub mod Tables

@@ -73,13 +73,15 @@ none_at_all [] = Some NoFederates
 none_at_all (f ∷ feds) = None
 
 -- the first reason against a plan of these federates, and of one kind the first by federate and interface
-unfoldable pub refusal_of : List FederateRecord → Option PlanRefusal
-refusal_of feds =
-    option_or (none_at_all feds)
-    (option_or (first_some (missing_at (publication_of feds)) (inputs feds))
+abbrev pub named_refusal : List FederateRecord → Option PlanRefusal
+named_refusal feds =
+    option_or (first_some (missing_at (publication_of feds)) (inputs feds))
     (option_or (first_some (mismatch_at (publication_of feds) feds) (inputs feds))
     (option_or (first_some (target_at (endpoint_of feds)) (filters feds))
-    (first_some (too_long_at (endpoint_of feds) (filters feds)) (endpoints feds)))))
+    (first_some (too_long_at (endpoint_of feds) (filters feds)) (endpoints feds))))
+
+unfoldable pub refusal_of : List FederateRecord → Option PlanRefusal
+refusal_of feds = option_or (none_at_all feds) (named_refusal feds)
 
 -- what a look for a reason may answer: that there is none, the reason, or that memory is wanting
 abbrev pub Says : Option PlanRefusal → Result (Unit {0}) PlanRefusal → Type 0

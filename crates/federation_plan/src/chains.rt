@@ -10,6 +10,7 @@ ghost use Rattle.federation_plan.specs.Chains.{filter_of as filter_by};
 ghost use Rattle.federation_plan.specs.Refusal.{Says, first_some};
 ghost use Rattle.federation_plan.specs.Tables.{row_at, entry, HasPlace, too_long_in, AreLists, chain_by, chains_by, blank_chains, chains_at, rerouted_at};
 ghost use Rattle.federation_plan.specs.Depends.{last_reroute};
+ghost use Rattle.federation_plan.specs.Draft.{IsSide};
 ghost use Rattle.message_filters.specs.Filter.{reroute_of as reroute_by};
 
 use crate::links::Rerouted;
@@ -95,8 +96,8 @@ pub(crate) fn chains_table(
     destinations: &Table,
 ) -> Result<Items<Items<EndChains>>, OutOfMemory>
     requires few { AreFew federates.now }
-    requires sources { (f : ℕ) → AreLists federates.now (row_at sources.now f) (length (federate_at federates.now f).endpoints) }
-    requires destinations { (f : ℕ) → AreLists federates.now (row_at destinations.now f) (length (federate_at federates.now f).endpoints) }
+    requires sources { IsSide federates.now sources.now }
+    requires destinations { IsSide federates.now destinations.now }
     ensures places { IfOk result (λ table. (f : ℕ) → length (row_at table f) ≡ length (federate_at federates.now f).endpoints) }
     ensures chains { IfOk result (λ table. (e : EndRef) → IsEndpoint federates.now e →
         chains_at table e ≡ chains_by (get_by_text endpoints.now) federates.now (entry sources.now e) (entry destinations.now e)) }
@@ -201,7 +202,7 @@ pub(crate) fn rerouted_table(
     sources: &Table,
 ) -> Result<Rerouted, OutOfMemory>
     requires few { AreFew federates.now }
-    requires sources { (f : ℕ) → AreLists federates.now (row_at sources.now f) (length (federate_at federates.now f).endpoints) }
+    requires sources { IsSide federates.now sources.now }
     ensures places { IfOk result (λ table. (f : ℕ) → length (row_at table f) ≡ length (federate_at federates.now f).endpoints) }
     ensures ends { IfOk result (λ table. (e : EndRef) →
         rerouted_at table e ≡ last_reroute (chain_by (get_by_text endpoints.now) federates.now (entry sources.now e))) }

@@ -2,6 +2,7 @@
 #![tactic(auto)]
 
 mod chains;
+mod draft;
 mod laws;
 mod links;
 mod names;
