@@ -5,12 +5,13 @@ use Rattle.helics_time.specs.Settings.{Terms}
 use Rattle.interface_names.specs.declared.records.InputRecord.{InputRecord}
 use Rattle.interface_names.specs.declared.records.FederateRecord.{FederateRecord}
 use Rattle.json_reading.specs.Keys.{Member, json_of}
-use Rattle.json_reading.specs.Reading.{Read, ◌>>=◌, refused, members_of, optional_at, list_of, no_memory}
+use Rattle.json_reading.specs.Reading.{Read, ◌>>=◌, refused, members_of, optional_at, list_up_to, no_memory}
 use Rattle.json_reading.specs.Leaves.{text_up_to, true_or_false, time_up_to, whole_between}
 use Rattle.json_reading.specs.declared.refusal.ConfigRefusal.{ConfigRefusal}
 use Rattle.json_reading.specs.declared.refusal.ConfigCause.TheVariants.{NotJson}
 use Rattle.fed_config.specs.Interfaces.{publication_of, subscription_of, input_of, endpoint_of}
 use Rattle.fed_config.specs.Filters.{filter_of}
+use Rattle.fed_config.specs.Scripts.{known_of, script_of}
 use Rattle.fed_config.specs.declared.config.FederateConfig.{FederateConfig}
 
 -- ---- limits
@@ -59,7 +60,7 @@ settings_of members = do
 
 -- the list at a key, and no items without it
 abbrev pub list_at : {A : Type 0} → List ℕ → (Data → Read A) → List Member → Read (List A)
-list_at key read members = optional_at key (list_of most_interfaces read) members >>= λ found. Ok (unwrap_or found [])
+list_at key read members = optional_at key (list_up_to most_interfaces read) members >>= λ found. Ok (unwrap_or found [])
 
 -- subscriptions come first among the inputs
 unfoldable pub inputs_of : List Member → Read (List InputRecord)
@@ -91,7 +92,8 @@ abbrev pub federate_keys : List (List ℕ)
 federate_keys =
     codes "name" ∷ codes "period" ∷ codes "offset" ∷ codes "timedelta" ∷ codes "inputdelay" ∷ codes "outputdelay"
     ∷ codes "uninterruptible" ∷ codes "waitforcurrenttimeupdate" ∷ codes "maxiterations"
-    ∷ codes "publications" ∷ codes "subscriptions" ∷ codes "inputs" ∷ codes "endpoints" ∷ codes "filters" ∷ []
+    ∷ codes "publications" ∷ codes "subscriptions" ∷ codes "inputs" ∷ codes "endpoints" ∷ codes "filters" ∷ codes "initial"
+    ∷ codes "script" ∷ []
 
 -- what a federate file says, with places below the file
 unfoldable pub federate_of : Data → Read FederateConfig
@@ -99,7 +101,8 @@ federate_of value = do
   members ← members_of federate_keys value
   name ← optional_at (codes "name") (text_up_to longest_name) members
   federate ← record_of (unwrap_or name []) members
-  Ok (record { federate = federate; named = is_some name })
+  script ← script_of (known_of federate) members
+  Ok (record { federate = federate; named = is_some name; script = script })
 
 -- the place of the whole file is `/`
 abbrev pub whole_path : List ℕ → List ℕ

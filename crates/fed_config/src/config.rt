@@ -1,28 +1,33 @@
 // A federate file.
-ghost use Rattle.std.specs.Prelude.{◌≡◌, ◌≢◌, ◌⊎◌, ◌≤◌, ◌^◌, ◌++◌, IfOk, codes};
+ghost use Rattle.std.specs.Prelude.{◌≡◌, ◌≢◌, ◌⊎◌, ◌≤◌, ◌^◌, ◌++◌, ◌*◌, IfOk, codes, length};
 ghost use Rattle.serde_json.specs.View.{view};
 ghost use Rattle.json_reading.specs.Keys.{pairs_of};
 ghost use Rattle.json_reading.specs.Reading.{Gives, no_memory, refused};
-ghost use Rattle.fed_config.specs.Federate.{longest_setting, setting_at, iterations_at, settings_of, inputs_of, list_at, record_of, federate_of, whole_path, config_of, Answers};
+ghost use Rattle.fed_config.specs.Names.{HasFew};
+ghost use Rattle.fed_config.specs.Federate.{longest_setting, most_interfaces, setting_at, iterations_at, settings_of, inputs_of, list_at, record_of, federate_of, whole_path, config_of, Answers};
 
 use crate::filters::FilterReader;
 use crate::interfaces::{EndpointReader, InputReader, PublicationReader, SubscriptionReader};
+use crate::names::Names;
+use crate::scripts::script;
+use fed_script::Script;
 use hel_lists::{Items, OutOfMemory, Text};
 use helics_time::Settings;
 use interface_names::{FederateRecord, InputRecord};
 use json_reading::{
-    ConfigCause, ConfigRefusal, ListOf, Object, Reader, TextUpTo, TimeUpTo, TrueOrFalse,
+    ConfigCause, ConfigRefusal, ListUpTo, Object, Reader, TextUpTo, TimeUpTo, TrueOrFalse,
     WholeBetween, members, optional, parse,
 };
 use serde_json::Value;
 use std::alloc::Global;
 
-/// What a federate file says: what the federate brings, and whether the file names it. One that it
-/// doesn't name has the empty name.
+/// What a federate file says: what the federate brings, whether the file names it, and its script,
+/// where there is one. A federate that its file doesn't name has the empty name.
 #[derive(Debug, Drop)]
 pub struct FederateConfig {
     pub federate: FederateRecord,
     pub named: bool,
+    pub script: Option<Script>,
 }
 
 // The most bytes of a federate's name.
@@ -91,17 +96,28 @@ fn federate(alloc: Global, value: &Value) -> Result<FederateConfig, ConfigRefusa
         "inputs",
         "endpoints",
         "filters",
+        "initial",
+        "script",
     ];
     let object = members(alloc, value, &keys)?;
     let name = optional(alloc, object, "name", &NAME)?;
     let named = name.is_some();
     let federate = record(alloc, name.unwrap_or(Text::new(alloc)), object)?;
-    Ok(FederateConfig { federate, named })
+    let Ok(names) = Names::of(alloc, &federate) else {
+        return Err(ConfigRefusal::memory(alloc));
+    };
+    let script = script(alloc, &names, object)?;
+    Ok(FederateConfig {
+        federate,
+        named,
+        script,
+    })
 }
 
 #[tactic(auto, unfolding(crate::specs::Federate::record_of))]
 fn record(alloc: Global, name: Text, object: &Object) -> Result<FederateRecord, ConfigRefusal>
-    ensures { Gives (λ f. f) result (record_of name (pairs_of object.now.entries)) }
+    ensures read { Gives (λ f. f) result (record_of name (pairs_of object.now.entries)) }
+    ensures few { IfOk result HasFew }
 {
     let settings = settings(alloc, object)?;
     let publications = list(alloc, object, "publications", PublicationReader)?;
@@ -118,6 +134,7 @@ fn record(alloc: Global, name: Text, object: &Object) -> Result<FederateRecord, 
     })
 }
 
+#[tactic(auto, using(crate::proofs::Bounds::list_within))]
 fn list<R: Reader + Drop>(
     alloc: Global,
     object: &Object,
@@ -126,9 +143,10 @@ fn list<R: Reader + Drop>(
 ) -> Result<Items<R::Output>, ConfigRefusal>
 where
     R::Output: Drop,
-    ensures { Gives (λ xs. xs) result (list_at key.now (R.reads reader) (pairs_of object.now.entries)) }
+    ensures read { Gives (λ xs. xs) result (list_at key.now (R.reads reader) (pairs_of object.now.entries)) }
+    ensures few { IfOk result (λ xs. length xs ≤ most_interfaces) }
 {
-    let list = ListOf {
+    let list = ListUpTo {
         reader,
         most: MOST_INTERFACES,
     };
@@ -139,7 +157,8 @@ where
 // Subscriptions come first.
 #[tactic(auto, unfolding(crate::specs::Federate::inputs_of))]
 fn inputs(alloc: Global, object: &Object) -> Result<Items<InputRecord>, ConfigRefusal>
-    ensures { Gives (λ xs. xs) result (inputs_of (pairs_of object.now.entries)) }
+    ensures read { Gives (λ xs. xs) result (inputs_of (pairs_of object.now.entries)) }
+    ensures few { IfOk result (λ xs. length xs ≤ 2 * most_interfaces) }
 {
     let subscriptions = list(alloc, object, "subscriptions", SubscriptionReader)?;
     let inputs = list(alloc, object, "inputs", InputReader)?;

@@ -4,6 +4,13 @@
 mod config;
 mod filters;
 mod interfaces;
+mod names;
+mod places;
+mod scripts;
+#[cfg(test)]
+mod tests;
+mod values;
+mod verbs;
 mod words;
 
 pub use config::{FederateConfig, read_federate};

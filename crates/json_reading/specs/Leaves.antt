@@ -83,6 +83,9 @@ time_up_to most value = here (time_of most value)
 abbrev pub whole_between : ℕ → ℕ → Data → Read ℕ
 whole_between least most value = here (whole_of least most value)
 
+abbrev pub any_integer : Data → Read ℤ
+any_integer value = here (integer_of value)
+
 -- a text, or a list of texts
 abbrev pub texts_in : Data → Read (List (List ℕ))
 texts_in (string text) = Ok (text ∷ [])

@@ -95,8 +95,17 @@ abbrev pub few_items : ℕ → Option Items → Result Items ConfigCause
 few_items most None = Err NotAList
 few_items most (Some items) = if nat_lt most (item_count items) then Err OutOfRange else Ok items
 
-abbrev pub list_of : {A : Type 0} → ℕ → (Data → Read A) → Data → Read (List A)
-list_of most read value = here (few_items most (as_array value)) >>= λ items. each_from read 0 items
+abbrev pub any_items : Option Items → Result Items ConfigCause
+any_items None = Err NotAList
+any_items (Some items) = Ok items
+
+-- a list, each item read so
+abbrev pub list_of : {A : Type 0} → (Data → Read A) → Data → Read (List A)
+list_of read value = here (any_items (as_array value)) >>= λ items. each_from read 0 items
+
+-- a list of at most so many items, each read so
+abbrev pub list_up_to : {A : Type 0} → ℕ → (Data → Read A) → Data → Read (List A)
+list_up_to most read value = here (few_items most (as_array value)) >>= λ items. each_from read 0 items
 
 -- ---- what the code answers
 

@@ -196,3 +196,22 @@ impl Reader for WholeBetween {
         }
     }
 }
+
+/// Reads an integer of 64 signed bits.
+#[derive(Clone, Copy, Debug, PartialEq, Eq)]
+pub struct AnyInteger;
+
+impl Reader for AnyInteger {
+    ghost use Rattle.json_reading.specs.Leaves.{any_integer};
+
+    type Output = i64;
+
+    ghost reads = { λ reader. any_integer };
+
+    fn read(&self, alloc: Global, value: &Value) -> Result<i64, ConfigRefusal> {
+        match integer(value) {
+            Ok(number) => Ok(number),
+            Err(cause) => Err(ConfigRefusal::of(alloc, cause)),
+        }
+    }
+}

@@ -12,7 +12,8 @@ pub use document::parse;
 pub use fields::{Reader, needed, needed_either, optional, optional_either};
 pub use keys::{Object, as_object, has_doubled, member, members, same_key};
 pub use leaves::{
-    AnyText, TextUpTo, TimeUpTo, TrueOrFalse, WholeBetween, flag, integer, text, time, whole,
+    AnyInteger, AnyText, TextUpTo, TimeUpTo, TrueOrFalse, WholeBetween, flag, integer, text, time,
+    whole,
 };
-pub use lists::{ListOf, TextOrTexts, at_place, each, items};
+pub use lists::{ListOf, ListUpTo, TextOrTexts, at_place, each, few_items, items};
 pub use refusal::{ConfigCause, ConfigRefusal};

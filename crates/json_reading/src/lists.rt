@@ -1,7 +1,7 @@
 // Lists.
 ghost use Rattle.std.specs.Prelude.{◌≡◌, decimal, [], ◌∷◌, Ok};
 ghost use Rattle.serde_json.specs.View.{view, items_view};
-ghost use Rattle.json_reading.specs.Reading.{Gives, Stands, below, each_from, few_items};
+ghost use Rattle.json_reading.specs.Reading.{Gives, Stands, below, each_from, any_items, few_items};
 ghost use Rattle.json_reading.specs.Leaves.{GivesItems};
 ghost use Rattle.serde_json.specs.Find.{as_array};
 
@@ -12,11 +12,10 @@ use hel_lists::{Items, Text};
 use serde_json::Value;
 use std::alloc::Global;
 
-/// Reads a list of at most so many items, each by its reader: NotAList, OutOfRange.
+/// Reads a list, each item by its reader: NotAList.
 #[derive(Clone, Copy, Debug, PartialEq, Eq)]
 pub struct ListOf<R> {
     pub reader: R,
-    pub most: usize,
 }
 
 impl<R: Reader> Reader for ListOf<R>
@@ -27,19 +26,54 @@ where
 
     type Output = Items<R::Output>;
 
-    ghost reads = { λ list. list_of list.most (R.reads list.reader) };
+    ghost reads = { λ list. list_of (R.reads list.reader) };
 
     fn read(&self, alloc: Global, value: &Value) -> Result<Items<R::Output>, ConfigRefusal> {
-        match items(value, self.most) {
+        match items(value) {
             Ok(items) => each(alloc, items, &self.reader),
             Err(cause) => Err(ConfigRefusal::of(alloc, cause)),
         }
     }
 }
 
+/// Reads a list of at most so many items, each by its reader: NotAList, OutOfRange.
+#[derive(Clone, Copy, Debug, PartialEq, Eq)]
+pub struct ListUpTo<R> {
+    pub reader: R,
+    pub most: usize,
+}
+
+impl<R: Reader> Reader for ListUpTo<R>
+where
+    R::Output: Drop,
+{
+    ghost use Rattle.json_reading.specs.Reading.{list_up_to};
+
+    type Output = Items<R::Output>;
+
+    ghost reads = { λ list. list_up_to list.most (R.reads list.reader) };
+
+    fn read(&self, alloc: Global, value: &Value) -> Result<Items<R::Output>, ConfigRefusal> {
+        match few_items(value, self.most) {
+            Ok(items) => each(alloc, items, &self.reader),
+            Err(cause) => Err(ConfigRefusal::of(alloc, cause)),
+        }
+    }
+}
+
+/// The items of a list: NotAList.
+pub fn items(value: &Value) -> Result<&[Value], ConfigCause>
+    ensures { GivesItems result (any_items (as_array (view value.now))) }
+{
+    match value.as_array() {
+        None => Err(ConfigCause::NotAList),
+        Some(list) => Ok(list.as_slice()),
+    }
+}
+
 /// The items of a list of at most so many: NotAList, OutOfRange.
 #[tactic(auto, using(crate::proofs::Fronts::counts))]
-pub fn items(value: &Value, most: usize) -> Result<&[Value], ConfigCause>
+pub fn few_items(value: &Value, most: usize) -> Result<&[Value], ConfigCause>
     ensures { GivesItems result (few_items most (as_array (view value.now))) }
 {
     match value.as_array() {
