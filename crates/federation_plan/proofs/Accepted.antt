@@ -67,5 +67,6 @@ short feds e accepted within =
     not_either true b r none = absurd (cc)
     not_either false true r none = absurd (cc)
     not_either false false r none = (refl, refl)
+
     few : (is : List (Interface FilterTerms)) → nat_lt most_filters (length is) ≡ false → length (map (λ (i : Interface FilterTerms). i.ref) is) ≤ most_filters
     few is none = subst (λ (n : ℕ). n ≤ most_filters) (sym (length-map is (λ (i : Interface FilterTerms). i.ref))) (ltb-false _ _ none)

@@ -118,21 +118,21 @@ attached_in {A} meaning names first now next f n xs x targets was below at are p
     let put : (r : EndRef) → entry next r ≡ entry now r ++ (if name_ref meaning (names x) r then record { fed = f; index = n } ∷ [] else []) =
     λ r. put_named r ∙ ap (λ (ts : List (List ℕ)). entry now r ++ (if name_ref meaning ts r then record { fed = f; index = n } ∷ [] else [])) are in
     record {
-  is = λ owner r.
-  let here = if name_ref meaning (names x) r then record { fed = f; index = n } ∷ [] else [] in
-  let rest = refs_naming meaning names (interfaces_in owner f (n + 1) (drop (n + 1) xs)) r in
-  ap (λ (qs : List EndRef). qs ++ rest) (put r) ∙ append_assoc (entry now r) here rest
-  ∙ ap (λ (qs : List EndRef). entry now r ++ qs) (sym (naming_cons meaning names r (one_in owner f n x) (interfaces_in owner f (n + 1) (drop (n + 1) xs)))
-  ∙ ap (λ (y : A). refs_naming meaning names (one_in owner f n y ∷ interfaces_in owner f (n + 1) (drop (n + 1) xs)) r) at
-  ∙ sym (ap (λ (is : List (Interface A)). refs_naming meaning names is r) (rest_in owner f n xs x below)))
-  ∙ was.is owner r;
-  before = λ r q among. elim (in_append (entry now r) _ q (subst (IsIn q) (put r) among)) [
-    | inl old ↦ elim (was.before r q old) [ inl less ↦ inl less | inr same ↦ inr (same.0, (let below' = same.1 in omega arith)) ]
-    | inr new ↦
-        let is : q ≡ record { fed = f; index = n } = in_either (name_ref meaning (names x) r) q _ new in
-        inr (ap (λ (p : EndRef). p.fed) is, (let same : q.index ≡ n = ap (λ (p : EndRef). p.index) is in omega arith))
-  ];
-}
+      is = λ owner r.
+          let here = if name_ref meaning (names x) r then record { fed = f; index = n } ∷ [] else [] in
+          let rest = refs_naming meaning names (interfaces_in owner f (n + 1) (drop (n + 1) xs)) r in
+          ap (λ (qs : List EndRef). qs ++ rest) (put r) ∙ append_assoc (entry now r) here rest
+          ∙ ap (λ (qs : List EndRef). entry now r ++ qs) (sym (naming_cons meaning names r (one_in owner f n x) (interfaces_in owner f (n + 1) (drop (n + 1) xs)))
+          ∙ ap (λ (y : A). refs_naming meaning names (one_in owner f n y ∷ interfaces_in owner f (n + 1) (drop (n + 1) xs)) r) at
+          ∙ sym (ap (λ (is : List (Interface A)). refs_naming meaning names is r) (rest_in owner f n xs x below)))
+          ∙ was.is owner r;
+      before = λ r q among. elim (in_append (entry now r) _ q (subst (IsIn q) (put r) among)) [
+        | inl old ↦ elim (was.before r q old) [ inl less ↦ inl less | inr same ↦ inr (same.0, (let below' = same.1 in omega arith)) ]
+        | inr new ↦
+            let is : q ≡ record { fed = f; index = n } = in_either (name_ref meaning (names x) r) q _ new in
+            inr (ap (λ (p : EndRef). p.fed) is, (let same : q.index ≡ n = ap (λ (p : EndRef). p.index) is in omega arith))
+      ];
+    }
 
 -- all of the federate are done
 pub ends_in : {A : Type 0} (meaning : List ℕ → Option EndRef) (names : A → List (List ℕ)) (first now : List (List (List EndRef))) (f n : ℕ) (xs : List A) →
@@ -178,14 +178,14 @@ pub attached_from : {A : Type 0} (meaning : List ℕ → Option EndRef) (names :
     IsAttachingFrom meaning names kind next (f + 1) feds
 attached_from {A} meaning names kind now next f feds x xs was below at are put = record {
   is = λ r.
-  let here = refs_naming meaning names (interfaces_in x.name f 0 xs) r in
-  let rest = refs_naming meaning names (interfaces_from kind (f + 1) (drop (f + 1) feds)) r in
-  ap (λ (qs : List EndRef). qs ++ rest) (put x.name r) ∙ append_assoc (entry now r) here rest
-  ∙ ap (λ (qs : List EndRef). entry now r ++ qs)
-  (ap (λ (l : List A). refs_naming meaning names (interfaces_in x.name f 0 l) r ++ rest) are
-  ∙ sym (naming_append meaning names (interfaces_in x.name f 0 (kind x)) (interfaces_from kind (f + 1) (drop (f + 1) feds)) r)
-  ∙ sym (ap (λ (is : List (Interface A)). refs_naming meaning names is r) (rest_from kind f feds x below at)))
-  ∙ was.is r;
+      let here = refs_naming meaning names (interfaces_in x.name f 0 xs) r in
+      let rest = refs_naming meaning names (interfaces_from kind (f + 1) (drop (f + 1) feds)) r in
+      ap (λ (qs : List EndRef). qs ++ rest) (put x.name r) ∙ append_assoc (entry now r) here rest
+      ∙ ap (λ (qs : List EndRef). entry now r ++ qs)
+      (ap (λ (l : List A). refs_naming meaning names (interfaces_in x.name f 0 l) r ++ rest) are
+      ∙ sym (naming_append meaning names (interfaces_in x.name f 0 (kind x)) (interfaces_from kind (f + 1) (drop (f + 1) feds)) r)
+      ∙ sym (ap (λ (is : List (Interface A)). refs_naming meaning names is r) (rest_from kind f feds x below at)))
+      ∙ was.is r;
   before = λ r q among. elim (in_append (entry now r) _ q (subst (IsIn q) (put x.name r) among)) [
     | inl old ↦ let less : q.fed < f = was.before r q old in omega arith
     | inr new ↦ let same : q.fed ≡ f = naming_of meaning names x.name f 0 xs r q new in omega arith

@@ -123,10 +123,10 @@ module _ (feds : List FederateRecord) (pubs ends : List ℕ → Option EndRef) (
       first_some (too_long_in s d) (endpoints feds) ≡ first_some (too_long_at (endpoint_of feds) (filters feds)) (endpoints feds)
   long_is s d on_source on_destination =
       let each : (i : Interface EndRecord) → too_long_in s d i ≡ too_long_at (endpoint_of feds) (filters feds) i = λ i.
-          ap (λ (n : ℕ). if nat_lt most_filters n || nat_lt most_filters (length (entry d i.ref)) then Some (ChainTooLong i.ref) else None)
-          (ap length (on_source i.ref) ∙ length-map (naming (endpoint_of feds) sources (filters feds) i.ref) (λ (j : Interface FilterTerms). j.ref))
-          ∙ ap (λ (n : ℕ). if nat_lt most_filters (length (naming (endpoint_of feds) sources (filters feds) i.ref)) || nat_lt most_filters n then Some (ChainTooLong i.ref) else None)
-          (ap length (on_destination i.ref) ∙ length-map (naming (endpoint_of feds) destinations (filters feds) i.ref) (λ (j : Interface FilterTerms). j.ref))
+      ap (λ (n : ℕ). if nat_lt most_filters n || nat_lt most_filters (length (entry d i.ref)) then Some (ChainTooLong i.ref) else None)
+      (ap length (on_source i.ref) ∙ length-map (naming (endpoint_of feds) sources (filters feds) i.ref) (λ (j : Interface FilterTerms). j.ref))
+      ∙ ap (λ (n : ℕ). if nat_lt most_filters (length (naming (endpoint_of feds) sources (filters feds) i.ref)) || nat_lt most_filters n then Some (ChainTooLong i.ref) else None)
+      (ap length (on_destination i.ref) ∙ length-map (naming (endpoint_of feds) destinations (filters feds) i.ref) (λ (j : Interface FilterTerms). j.ref))
       in ap (λ (ask : Interface EndRecord → Option PlanRefusal). first_some ask (endpoints feds)) (same_meaning (too_long_in s d) (too_long_at (endpoint_of feds) (filters feds)) each)
 
   pub last_reason : (s d : List (List (List EndRef))) (result : Result (Unit {0}) PlanRefusal) →

@@ -179,7 +179,13 @@ pub(crate) fn link_receivers(
 {
     for (f, federate) in federates.iter().enumerate() {
         let to = f as u16;
-        link_hearers(links, endpoints, rerouted, to, federate.endpoints.as_slice());
+        link_hearers(
+            links,
+            endpoints,
+            rerouted,
+            to,
+            federate.endpoints.as_slice(),
+        );
     }
 }
 
@@ -198,7 +204,13 @@ fn link_hearers(
         ≡ (linked links.old a f || list_any (hears (get_by_text endpoints.now) (rerouted_at rerouted.now) a f) (interfaces_in owner to 0 ends.now)) }
 {
     for end in ends {
-        link_sources(links, endpoints, rerouted, to, end.source_targets.as_slice());
+        link_sources(
+            links,
+            endpoints,
+            rerouted,
+            to,
+            end.source_targets.as_slice(),
+        );
     }
 }
 
@@ -222,13 +234,7 @@ fn link_sources(
 }
 
 // Links the federate of an endpoint, by its name, to another, unless the endpoint is rerouted.
-fn link_source(
-    links: &mut Links,
-    endpoints: &Names,
-    rerouted: &Rerouted,
-    to: u16,
-    name: &Text,
-)
+fn link_source(links: &mut Links, endpoints: &Names, rerouted: &Rerouted, to: u16, name: &Text)
     requires to { to < length links.old }
     requires known { AreBelow (length links.old) (get_by_text endpoints.now) }
     requires places { (e : EndRef) → get_by_text endpoints.now name.now ≡ Some e → HasPlace rerouted.now e }

@@ -226,11 +226,7 @@ fn check_filters_of(
     Ok(())
 }
 
-fn check_filter(
-    alloc: Global,
-    endpoints: &Names,
-    filter: &FilterRecord,
-) -> Result<(), PlanRefusal>
+fn check_filter(alloc: Global, endpoints: &Names, filter: &FilterRecord) -> Result<(), PlanRefusal>
     ensures { (owner : List ℕ) (f n : ℕ) → Says (target_at (get_by_text endpoints.now) (one_in owner f n filter.now)) result }
 {
     check_targets(alloc, endpoints, filter.source_of.as_slice())?;

@@ -178,12 +178,7 @@ fn names_on(side: Side, filter: &FilterRecord) -> &[Text]
 }
 
 // Puts a reference at each interface that one of the names means.
-fn attach(
-    table: &mut Table,
-    names: &Names,
-    by: EndRef,
-    targets: &[Text],
-) -> Result<(), OutOfMemory>
+fn attach(table: &mut Table, names: &Names, by: EndRef, targets: &[Text]) -> Result<(), OutOfMemory>
     requires places { (name : List ℕ) (r : EndRef) → get_by_text names.now name ≡ Some r → HasPlace table.old r }
     requires fresh { (r : EndRef) → ends_with (entry table.old r) by ≡ false }
     ensures places { OnOk result ((f : ℕ) → length (row_at table.new f) ≡ length (row_at table.old f)) }
@@ -196,12 +191,7 @@ fn attach(
     Ok(())
 }
 
-fn add_named(
-    table: &mut Table,
-    names: &Names,
-    by: EndRef,
-    name: &Text,
-) -> Result<(), OutOfMemory>
+fn add_named(table: &mut Table, names: &Names, by: EndRef, name: &Text) -> Result<(), OutOfMemory>
     requires { (r : EndRef) → get_by_text names.now name.now ≡ Some r → HasPlace table.old r }
     ensures places { OnOk result ((f : ℕ) → length (row_at table.new f) ≡ length (row_at table.old f)) }
     ensures entries { OnOk result ((r : EndRef) → entry table.new r

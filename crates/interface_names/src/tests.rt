@@ -86,22 +86,82 @@ type Case = (
 );
 
 const CASES: [Case; 16] = [
-    ("F", [(Publication, "k", false), (Endpoint, "k", false)], "Ok(0)"),
-    ("", [(Publication, "a", false), (Input, "a", false)], "Err(BadName)"),
-    ("G\u{1f}", [(Publication, "a", false), (Input, "a", false)], "Err(BadName)"),
-    ("G\u{7f}", [(Publication, "a", false), (Input, "a", false)], "Err(BadName)"),
-    ("G", [(Publication, "", false), (Input, "a", false)], "Err(BadName)"),
-    ("G", [(Publication, "a", false), (Input, "", false)], "Err(BadName)"),
-    ("G", [(Filter, "", true), (Input, "a", false)], "Err(BadName)"),
-    ("F", [(Filter, "a", false), (Input, "\n", false)], "Err(BadName)"),
-    ("F", [(Publication, "F/k", true), (Input, "-", false)], "Err(DuplicateFederate)"),
-    ("G", [(Publication, "k", true), (Publication, "k", true)], "Err(DuplicateName(Text { text: \"k\" }))"),
-    ("G", [(Endpoint, "k", true), (Endpoint, "F/k", true)], "Err(DuplicateName(Text { text: \"F/k\" }))"),
-    ("G", [(Filter, "k", false), (Filter, "k", true)], "Err(DuplicateName(Text { text: \"G/k\" }))"),
-    ("G", [(Publication, "k", true), (Input, "F/k", true)], "Ok(1)"),
-    ("H ~\u{80}", [(Input, "-", true), (Input, "-", true)], "Ok(2)"),
+    (
+        "F",
+        [(Publication, "k", false), (Endpoint, "k", false)],
+        "Ok(0)",
+    ),
+    (
+        "",
+        [(Publication, "a", false), (Input, "a", false)],
+        "Err(BadName)",
+    ),
+    (
+        "G\u{1f}",
+        [(Publication, "a", false), (Input, "a", false)],
+        "Err(BadName)",
+    ),
+    (
+        "G\u{7f}",
+        [(Publication, "a", false), (Input, "a", false)],
+        "Err(BadName)",
+    ),
+    (
+        "G",
+        [(Publication, "", false), (Input, "a", false)],
+        "Err(BadName)",
+    ),
+    (
+        "G",
+        [(Publication, "a", false), (Input, "", false)],
+        "Err(BadName)",
+    ),
+    (
+        "G",
+        [(Filter, "", true), (Input, "a", false)],
+        "Err(BadName)",
+    ),
+    (
+        "F",
+        [(Filter, "a", false), (Input, "\n", false)],
+        "Err(BadName)",
+    ),
+    (
+        "F",
+        [(Publication, "F/k", true), (Input, "-", false)],
+        "Err(DuplicateFederate)",
+    ),
+    (
+        "G",
+        [(Publication, "k", true), (Publication, "k", true)],
+        "Err(DuplicateName(Text { text: \"k\" }))",
+    ),
+    (
+        "G",
+        [(Endpoint, "k", true), (Endpoint, "F/k", true)],
+        "Err(DuplicateName(Text { text: \"F/k\" }))",
+    ),
+    (
+        "G",
+        [(Filter, "k", false), (Filter, "k", true)],
+        "Err(DuplicateName(Text { text: \"G/k\" }))",
+    ),
+    (
+        "G",
+        [(Publication, "k", true), (Input, "F/k", true)],
+        "Ok(1)",
+    ),
+    (
+        "H ~\u{80}",
+        [(Input, "-", true), (Input, "-", true)],
+        "Ok(2)",
+    ),
     ("I", [(Filter, "-", false), (Filter, "-", false)], "Ok(3)"),
-    ("I", [(Filter, "x", false), (Filter, "x", false)], "Err(DuplicateFederate)"),
+    (
+        "I",
+        [(Filter, "x", false), (Filter, "x", false)],
+        "Err(DuplicateFederate)",
+    ),
 ];
 
 #[test]
@@ -121,10 +181,18 @@ fn copies_are_equal_and_names_global(rt: HostRuntime) -> Result<(), Fail> {
     let record = federate(
         rt.alloc(),
         "F",
-        &[(Publication, "p", true), (Input, "-", false), (Endpoint, "e", false), (Filter, "f", false)],
+        &[
+            (Publication, "p", true),
+            (Input, "-", false),
+            (Endpoint, "e", false),
+            (Filter, "f", false),
+        ],
     )?;
     let copy = record.copy(rt.alloc())?;
-    assert_eq!(rt; format!(in rt.alloc(); "{copy:?}")?, format!(in rt.alloc(); "{record:?}")?);
+    assert_eq!(rt;
+        format!(in rt.alloc(); "{copy:?}")?,
+        format!(in rt.alloc(); "{record:?}")?
+    );
     for (name, global, told) in [("k", false, "F/k"), ("k", true, "k"), ("", false, "F/")] {
         let given = global_name(rt.alloc(), "F", name, global)?;
         assert_eq!(rt; given.as_str(), told);
