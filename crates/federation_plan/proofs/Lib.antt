@@ -1,5 +1,6 @@
 pub mod Accepted
 pub mod Attached
+pub mod Depending
 pub mod Drafts
 pub mod Firsts
 pub mod Joined
