@@ -7,4 +7,5 @@ pub mod Joined
 pub mod Lists
 pub mod Named
 pub mod Places
+pub mod Registries
 pub mod Reroutes

@@ -1,5 +1,5 @@
 -- Lists and their members.
-use Rattle.std.proofs.Common.{◌≡◌, ◌⊎◌, inl, inr, ℕ, zero, suc, ◌+◌, ◌<◌, ◌≤◌, List, [], ◌∷◌, ◌++◌, length, get_or, take, arith, refl, sym, ◌∙◌, ap, subst, Bool, true, false}
+use Rattle.std.proofs.Common.{◌≡◌, ◌⊎◌, inl, inr, ℕ, zero, suc, ◌+◌, ◌<◌, ◌≤◌, List, [], ◌∷◌, ◌++◌, length, get_or, take, take_all, arith, refl, sym, ◌∙◌, ap, subst, Bool, true, false}
 use Rattle.std.specs.List.{list_any}
 use Rattle.std.proofs.lemmas.Bool.{or_left, or_right, or_cases, true≢false}
 use Rattle.std.proofs.lemmas.List.{take_more, get_or_default}
@@ -58,3 +58,16 @@ pub same_test : (x y : Bool) → (x ≡ true → y ≡ true) → (y ≡ true →
 same_test true y to from = sym (to refl)
 same_test false true to from = from refl
 same_test false false to from = refl
+
+-- the same of an item that was read
+pub each_next : {A : Type 0} (P : A → Type 0) (xs : List A) (i : ℕ) (x : A) → i < length xs → x ≡ get_or xs i x → Each P (take i xs) → P x → Each P (take (i + 1) xs)
+each_next P xs i x below at first next = each_more P xs i x below first (subst P at next)
+
+-- all items were read
+pub each_all : {A : Type 0} (P : A → Type 0) (xs : List A) (i : ℕ) → length xs ≤ i → Each P (take i xs) → Each P xs
+each_all P xs i past each = subst (Each P) (take_all i xs past) each
+
+-- the first items, of which one more was put behind
+pub taken_more : {A : Type 0} (xs now next : List A) (i : ℕ) (x y : A) → i < length xs → now ≡ take i xs → next ≡ now ++ y ∷ [] → y ≡ x → ((d : A) → get_or xs i d ≡ x) → next ≡ take (i + 1) xs
+taken_more {A} xs now next i x y below was put same at =
+    put ∙ ap (λ (l : List A). l ++ y ∷ []) was ∙ ap (λ (z : A). take i xs ++ z ∷ []) (same ∙ sym (at x)) ∙ sym (take_more xs i x below)

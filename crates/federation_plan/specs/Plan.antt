@@ -1,5 +1,5 @@
 -- The plan of a federation.
-use Rattle.std.specs.Prelude.{ℕ, ◌<◌, ◌≡◌, true, None, List, [], map, length, slice_index_or}
+use Rattle.std.specs.Prelude.{ℕ, ◌<◌, ◌≡◌, ◌⊎◌, true, List, length, slice_index_or, None, Some, Result, Ok, Err}
 use Rattle.hel_lists.specs.Members.{Each, IsIn}
 use Rattle.hel_values.specs.declared.EndRef.{EndRef}
 use Rattle.helics_time.specs.Settings.{IsTerms}
@@ -7,6 +7,8 @@ use Rattle.interface_names.specs.declared.records.FederateRecord.{FederateRecord
 use Rattle.interface_names.specs.Filter.{KeepsBounds}
 use Rattle.interface_names.specs.Registry.{IsRegistry}
 use Rattle.dependency_paths.specs.Paths.{row_of, AreAncestors}
+use Rattle.federation_plan.specs.declared.refusal.PlanRefusal.{PlanRefusal}
+use Rattle.federation_plan.specs.declared.refusal.PlanRefusal.TheVariants.{OutOfMemory}
 use Rattle.federation_plan.specs.declared.tree.Tree.{Tree}
 use Rattle.federation_plan.specs.Interfaces.{refs_naming, publication_of, federate_at, inputs}
 use Rattle.federation_plan.specs.Tree.{IsValid}
@@ -49,3 +51,8 @@ pub record IsWaitPair (p : Federation) (a b : ℕ) : Type 0 where
   pub b_waits : (federate_at p.federates b).settings.wait ≡ true
   pub a_first : IsIn a (row_of p.ancestors b)
   pub b_first : IsIn b (row_of p.ancestors a)
+
+-- a plan of these federates and this tree, or the first reason against it, or want of memory
+abbrev pub Builds : List FederateRecord → Tree → Result Federation PlanRefusal → Type 0
+Builds feds tree (Ok p) = (refusal_of feds ≡ None) × (p.federates ≡ feds) × (p.tree ≡ tree) × IsFederation p
+Builds feds tree (Err refusal) = (refusal ≡ OutOfMemory) ⊎ (refusal_of feds ≡ Some refusal)
