@@ -1,5 +1,5 @@
 -- Counts that stop at a limit.
-use Rattle.std.proofs.Common.{ℕ, ◌+◌, ◌*◌, ◌<◌, ◌≤◌, ◌≡◌, min, refl, ap, sym, ◌∙◌, inl, inr, arith, mul_comm, mul-le-mul_left, mul-le-mul_right}
+use Rattle.std.proofs.Common.{ℕ, ◌+◌, ◌*◌, ◌<◌, ◌≤◌, ◌≡◌, min, ap, inl, inr, arith, mul_comm, mul-le-mul_left, mul-le-mul_right}
 use Rattle.std.proofs.lemmas.Bool.{cases_lt}
 
 -- a sum of counts

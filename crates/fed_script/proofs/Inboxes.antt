@@ -1,5 +1,5 @@
 -- What inboxes hold after a letter more, and for how many more they have room.
-use Rattle.std.proofs.Common.{ℕ, zero, suc, ◌+◌, ◌-◌, ◌<◌, ◌≤◌, ◌≡◌, refl, ap, sym, subst, ◌∙◌, cond, eqb, Bool, true, false, List, [], ◌∷◌, ◌++◌, map, length, get_or, drop, arith, Some, None, inl, inr}
+use Rattle.std.proofs.Common.{ℕ, zero, suc, ◌+◌, ◌<◌, ◌≤◌, ◌≡◌, refl, ap, sym, subst, ◌∙◌, cond, eqb, true, false, List, [], ◌∷◌, ◌++◌, length, get_or, drop, arith, Some, None, inl, inr}
 use Rattle.std.specs.Prelude.{slice_set, slice_get}
 use Rattle.std.proofs.lemmas.Bool.{cases_eq, eq-eqb, ne_eqb}
 use Rattle.std.proofs.lemmas.List.{length-set, get_or-set_same, get_or-set_other}

@@ -1,7 +1,7 @@
 -- Lists that are changed from their front on.
-use Rattle.std.proofs.Common.{ℕ, zero, suc, ◌+◌, ◌<◌, ◌≡◌, refl, ap, sym, ◌∙◌, List, [], ◌∷◌, ◌++◌, map, length, get_or, drop, take, arith, Some, None}
+use Rattle.std.proofs.Common.{ℕ, zero, suc, ◌<◌, ◌≡◌, refl, ap, List, [], ◌∷◌, ◌++◌, map, length, get_or, arith, Some}
 use Rattle.std.specs.Prelude.{slice_set, slice_get}
-use Rattle.std.proofs.lemmas.Option.{none-some, same_Some}
+use Rattle.std.proofs.lemmas.Option.{none-some}
 
 -- the first items of a list through f, and the rest as they are
 abbrev pub changed : {A : Type 0} → (A → A) → ℕ → List A → List A
@@ -24,18 +24,6 @@ pub changed_length : {A : Type 0} (f : A → A) (n : ℕ) (xs : List A) → leng
 changed_length f zero xs = refl
 changed_length f (suc n) [] = refl
 changed_length f (suc n) (x ∷ xs) = ap suc (changed_length f n xs)
-
--- the rest of a list at a place within it, and past its end
-pub drop_at_some : {A : Type 0} (n : ℕ) (xs : List A) (x : A) → slice_get xs n ≡ Some x → drop n xs ≡ x ∷ drop (suc n) xs
-drop_at_some n [] x is = absurd (none-some x is)
-drop_at_some {A = A} zero (y ∷ ys) x is = ap (λ (z : A). z ∷ ys) (same_Some y x is)
-drop_at_some (suc n) (y ∷ ys) x is = drop_at_some n ys x is
-
-pub drop_at_none : {A : Type 0} (n : ℕ) (xs : List A) → slice_get xs n ≡ None → drop n xs ≡ []
-drop_at_none zero [] is = refl
-drop_at_none (suc n) [] is = refl
-drop_at_none zero (y ∷ ys) is = absurd (none-some y (sym is))
-drop_at_none (suc n) (y ∷ ys) is = drop_at_none n ys is
 
 -- what stands first stands first with more behind it
 pub first_append : {A : Type 0} (xs ys : List A) (x : A) → slice_get xs 0 ≡ Some x → slice_get (xs ++ ys) 0 ≡ Some x

@@ -1,5 +1,5 @@
 -- What is left of a script once an action has passed.
-use Rattle.std.proofs.Common.{ℕ, zero, suc, ◌≡◌, refl, ap, sym, ◌∙◌, arith, Bool, true, false, inl, inr, List, [], ◌∷◌, ◌++◌, drop, Some, None}
+use Rattle.std.proofs.Common.{ℕ, zero, suc, ◌≡◌, refl, ap, sym, ◌∙◌, arith, true, inl, inr, List, [], ◌∷◌, ◌++◌, drop, Some, None}
 use Rattle.std.specs.Prelude.{find, slice_get, unwrap_or}
 use Rattle.std.proofs.lemmas.Bool.{cases_Bool}
 use Rattle.std.proofs.lemmas.Option.{none-some, same_Some}

@@ -1,8 +1,8 @@
 -- Scripts one action after another.
-use Rattle.std.proofs.Common.{ℕ, zero, suc, ◌+◌, ◌<◌, ◌≤◌, ◌≡◌, ◌≢◌, ◌⊎◌, refl, ap, sym, subst, ◌∙◌, Bool, true, false, inl, inr, List, [], ◌∷◌, ◌++◌, map, length, get_or, drop, arith, Some, None}
+use Rattle.std.proofs.Common.{ℕ, zero, suc, ◌+◌, ◌<◌, ◌≤◌, ◌≡◌, ◌⊎◌, refl, ap, sym, subst, ◌∙◌, true, inl, inr, List, [], ◌∷◌, ◌++◌, map, length, get_or, drop, arith}
 use Rattle.std.specs.Prelude.{slice_set, sum_by, is_some, unwrap_or}
 use Rattle.std.proofs.lemmas.Bool.{cases_Bool, false≢true}
-use Rattle.std.proofs.lemmas.List.{get_or-set_same, set-set, set-get_or, set_past, get_or_past}
+use Rattle.std.proofs.lemmas.List.{get_or-set_same, set-set, set-get_or}
 use Rattle.std.proofs.lemmas.List.Sums.{sum_by-cons}
 use Rattle.endpoint_messages.specs.declared.Letter.{Letter}
 use Rattle.fed_script.specs.declared.action.Action.{Action}
@@ -10,8 +10,8 @@ use Rattle.fed_script.specs.declared.action.Action.TheVariants.{Finish as finish
 use Rattle.fed_script.specs.declared.word.Word.{Word}
 use Rattle.fed_script.specs.declared.word.Word.TheVariants.{Publish, PublishSum, Send, Echo, Request, Advance, Iterate, Finish, Fail}
 use Rattle.fed_script.specs.View.{Sight, letters_at, taken}
-use Rattle.fed_script.specs.Script.{action_of, echo_of, answer_to, gives, given_from, first_action, next_action, behind, behind_first, words_after, seen_after, view_after}
-use Rattle.fed_script.specs.Laws.{HasNoEcho, actions_over, each_in_turn, WordsInTurn, actions_from, emptied, EchoAnswers, letters_left, Progresses}
+use Rattle.fed_script.specs.Script.{echo_of, answer_to, gives, given_from, first_action, next_action, behind, behind_first, words_after, seen_after, view_after}
+use Rattle.fed_script.specs.Laws.{actions_over, each_in_turn, WordsInTurn, actions_from, emptied, EchoAnswers, letters_left, Progresses}
 
 -- at its end a script finishes ever after
 ended : (views : List Sight) → actions_over [] views ≡ each_in_turn [] views

@@ -1,5 +1,5 @@
 -- A repeat is nested less deeply than the parts that it stands in.
-use Rattle.std.specs.Prelude.{ℕ, ◌≤◌, ◌+◌, max, List, [], ◌∷◌}
+use Rattle.std.specs.Prelude.{◌≤◌, max, List, [], ◌∷◌}
 use Rattle.std.proofs.Common.{arith}
 use Rattle.fed_script.specs.declared.rounds.Part.{Part}
 use Rattle.fed_script.specs.declared.rounds.Part.TheVariants.{Word as SingleWord, Repeat}

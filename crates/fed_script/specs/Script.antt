@@ -1,5 +1,5 @@
 -- What a script gives over what its federate sees.
-use Rattle.std.specs.Prelude.{ℕ, ◌+◌, ◌≤◌, min, ℤ, ◌+ℤ◌, Bool, if◌then◌else◌, Option, Some, None, is_some, unwrap_or, List, [], ◌∷◌}
+use Rattle.std.specs.Prelude.{ℕ, ◌+◌, ◌≤◌, min, ◌+ℤ◌, Bool, if◌then◌else◌, Option, Some, None, is_some, unwrap_or, List, [], ◌∷◌}
 use Rattle.std.specs.Int.{w64, saturate_signed}
 use Rattle.helics_time.specs.Time.{max_time}
 use Rattle.hel_values.specs.declared.Value.TheVariants.{Int}

@@ -1,5 +1,5 @@
 -- What words that are put together keep.
-use Rattle.std.specs.Prelude.{ℕ, ◌≡◌, ◌-◌, ◌^◌, length, min}
+use Rattle.std.specs.Prelude.{◌≡◌, ◌-◌, ◌^◌, length, min}
 use Rattle.fed_script.specs.declared.words.Words.TheInside.{Inside}
 use Rattle.fed_script.specs.Rounds.{unrolled, AreFresh}
 use Rattle.fed_script.specs.Script.{KeepTimes}

@@ -46,7 +46,8 @@ impl Script {
 
     /// The next action before the federate enters: `None` exactly where none is left.
     pub fn initial(&self, alloc: Global) -> Result<Option<Action>, OutOfMemory>
-        ensures { IfOk result (λ action. action ≡ slice_get self.now.initial 0) }
+        ensures value { IfOk result (λ action. action ≡ slice_get self.now.initial 0) }
+        ensures rules { IsCourse self.now }
     {
         match self.initial.get(self.initial_place) {
             None => Ok(None),

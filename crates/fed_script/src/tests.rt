@@ -1,6 +1,8 @@
-use crate::{EndpointNames, Script, View, Word, Words};
+ghost use Rattle.std.specs.Prelude.{◌≡◌, ◌≤◌};
+
+use crate::{Action, EndpointNames, Script, View, Word, Words};
 use due_queue::{Content, Item, Message};
-use hel_lists::{Items, OutOfMemory, Text};
+use hel_lists::{Copied, Items, OutOfMemory, Text};
 use hel_values::{EndRef, Payload, TextValue, Value};
 use helics_time::{MAX, Stamp};
 use iteration_rules::Mode;
@@ -32,7 +34,7 @@ fn assert_gives(
     wants: &[&str],
 ) -> Result<(), Fail> {
     for want in wants {
-        let action = script.next(alloc, view)?;
+        let action = script.next(alloc, view)?.copy(alloc)?;
         assert_eq!(rt; format!(in alloc; "{action:?}")?.as_str(), *want);
         script.advance(view);
     }
@@ -126,9 +128,18 @@ fn sums_and_times_stop_at_their_ends(rt: HostRuntime) -> Result<(), Fail> {
     )
 }
 
-#[test]
-fn an_echo_answers_each_letter(rt: HostRuntime) -> Result<(), Fail> {
-    let mut words = Words::new(rt.alloc());
+// A grant hands over messages, each of a federate for an endpoint, with a byte.
+fn grant(alloc: Global, view: &mut View, messages: &[(u16, u16, u8)]) -> Result<(), Fail> {
+    let mut items = Vec::new(alloc);
+    for (fed, endpoint, byte) in messages {
+        items.push(item(0, message(alloc, *fed, *endpoint, *byte)?))?;
+    }
+    view.take_over(alloc, &Numbers, 3, items.as_slice())?;
+    Ok(())
+}
+
+fn echoes(alloc: Global) -> Result<Words, Fail> {
+    let mut words = Words::new(alloc);
     for endpoint in [1, 2, 0, 1] {
         words.push(Word::Echo(endpoint))?;
     }
@@ -137,40 +148,29 @@ fn an_echo_answers_each_letter(rt: HostRuntime) -> Result<(), Fail> {
         mode: Mode::Force,
     })?;
     words.push(Word::Echo(0))?;
+    Ok(words)
+}
+
+#[test]
+fn an_echo_answers_each_letter(rt: HostRuntime) -> Result<(), Fail> {
+    let mut script = script_of(rt.alloc(), echoes(rt.alloc())?);
     let mut view = View::new(rt.alloc(), 0, 2)?;
-    let items = [
-        item(0, message(rt.alloc(), 4, 0, 10)?),
-        item(1, message(rt.alloc(), 5, 1, 11)?),
-        item(2, message(rt.alloc(), 6, 0, 12)?),
-        item(3, message(rt.alloc(), 7, 2, 13)?),
+    let messages = [(4, 0, 10), (5, 1, 11), (6, 0, 12), (7, 2, 13)];
+    grant(rt.alloc(), &mut view, &messages)?;
+    let answers = [
+        "Send { endpoint: 1, destination: Text { text: \"5\" }, payload: Payload { bytes: [11] } }",
+        "Send { endpoint: 0, destination: Text { text: \"4\" }, payload: Payload { bytes: [10] } }",
+        "Send { endpoint: 0, destination: Text { text: \"6\" }, payload: Payload { bytes: [12] } }",
+        "Request { time: 5, mode: Force }",
     ];
-    view.take_over(rt.alloc(), &Numbers, 3, &items)?;
-    let mut script = script_of(rt.alloc(), words);
-    assert_gives(
-        &rt,
-        rt.alloc(),
-        &mut script,
-        &mut view,
-        &[
-            "Send { endpoint: 1, destination: Text { text: \"5\" }, payload: Payload { bytes: [11] } }",
-            "Send { endpoint: 0, destination: Text { text: \"4\" }, payload: Payload { bytes: [10] } }",
-            "Send { endpoint: 0, destination: Text { text: \"6\" }, payload: Payload { bytes: [12] } }",
-            "Request { time: 5, mode: Force }",
-        ],
-    )?;
-    let more = [item(4, message(rt.alloc(), 6, 0, 14)?)];
-    view.take_over(rt.alloc(), &Numbers, 3, &more)?;
-    assert_gives(
-        &rt,
-        rt.alloc(),
-        &mut script,
-        &mut view,
-        &[
-            "Send { endpoint: 0, destination: Text { text: \"6\" }, payload: Payload { bytes: [14] } }",
-            "Finish",
-            "Finish",
-        ],
-    )
+    assert_gives(&rt, rt.alloc(), &mut script, &mut view, &answers)?;
+    grant(rt.alloc(), &mut view, &[(8, 0, 14)])?;
+    let answers = [
+        "Send { endpoint: 0, destination: Text { text: \"8\" }, payload: Payload { bytes: [14] } }",
+        "Finish",
+        "Finish",
+    ];
+    assert_gives(&rt, rt.alloc(), &mut script, &mut view, &answers)
 }
 
 // So many repeats round a body, one round another.
@@ -184,79 +184,103 @@ fn nested(alloc: Global, depth: u32, times: u32, body: Words) -> Result<Words, F
     Ok(inner)
 }
 
-#[test]
-fn repeats_give_their_body_so_often(rt: HostRuntime) -> Result<(), Fail> {
-    let mut body = Words::new(rt.alloc());
-    body.push(Word::Request(1))?;
-    let mut words = nested(rt.alloc(), 1, 2, body)?;
+fn one_word(alloc: Global, time: u64) -> Result<Words, Fail>
+    requires { time ≤ MAX }
+{
+    let mut words = Words::new(alloc);
+    words.push(Word::Request(time))?;
+    Ok(words)
+}
+
+// Two times: 1 twice, and 2. Then twice nothing, and 3.
+fn repeats(alloc: Global) -> Result<Words, Fail> {
+    let mut words = nested(alloc, 1, 2, one_word(alloc, 1)?)?;
     words.push(Word::Request(2))?;
-    let mut words = nested(rt.alloc(), 1, 2, words)?;
-    words.push_repeat(9, Words::new(rt.alloc()))?;
-    let mut none = Words::new(rt.alloc());
-    none.push(Word::Finish)?;
-    words.push_repeat(0, none)?;
+    let mut words = nested(alloc, 1, 2, words)?;
+    words.push_repeat(9, Words::new(alloc))?;
+    words.push_repeat(0, one_word(alloc, 4)?)?;
     words.push(Word::Request(3))?;
-    assert_eq!(rt; words.count(), 7);
-    let mut view = View::new(rt.alloc(), 0, 0)?;
-    let mut script = script_of(rt.alloc(), words);
-    assert_gives(
-        &rt,
-        rt.alloc(),
-        &mut script,
-        &mut view,
-        &[
-            "Request { time: 1, mode: Next }",
-            "Request { time: 1, mode: Next }",
-            "Request { time: 2, mode: Next }",
-            "Request { time: 1, mode: Next }",
-            "Request { time: 1, mode: Next }",
-            "Request { time: 2, mode: Next }",
-            "Request { time: 3, mode: Next }",
-            "Finish",
-        ],
-    )
+    Ok(words)
 }
 
 #[test]
-fn a_million_times_eight_deep(rt: HostRuntime) -> Result<(), Fail> {
-    let mut view = View::new(rt.alloc(), 0, 1)?;
-    let empty = nested(rt.alloc(), 8, 1_000_000, Words::new(rt.alloc()))?;
-    assert_eq!(rt; empty.count(), 0);
-    let mut script = script_of(rt.alloc(), empty);
+fn repeats_give_their_body_so_often(rt: HostRuntime) -> Result<(), Fail> {
+    let words = repeats(rt.alloc())?;
+    assert_eq!(rt; words.count(), 7);
+    let mut view = View::new(rt.alloc(), 0, 0)?;
+    let mut script = script_of(rt.alloc(), words);
+    for time in [1, 1, 2, 1, 1, 2, 3] {
+        let action = script.next(rt.alloc(), &view)?;
+        assert!(rt; matches!(&action, Action::Request { time: given, .. } if *given == time));
+        script.advance(&mut view);
+    }
     assert_gives(
         &rt,
         rt.alloc(),
         &mut script,
         &mut view,
         &["Finish", "Finish"],
-    )?;
-    let mut body = Words::new(rt.alloc());
-    body.push(Word::Echo(0))?;
-    body.push(Word::Echo(1))?;
-    let mut idle = nested(rt.alloc(), 1, 1_000_000, body)?;
-    assert_eq!(rt; idle.count(), 2_000_000);
-    idle.push(Word::Request(1))?;
-    let mut script = script_of(rt.alloc(), idle);
-    assert_gives(
-        &rt,
-        rt.alloc(),
-        &mut script,
-        &mut view,
-        &["Request { time: 1, mode: Next }", "Finish"],
-    )?;
-    let mut body = Words::new(rt.alloc());
-    body.push(Word::Request(1))?;
-    let many = nested(rt.alloc(), 8, 1_000_000, body)?;
-    assert_eq!(rt; many.count(), u64::MAX);
-    let mut script = script_of(rt.alloc(), many);
-    for _ in 0..3 {
-        assert_gives(
-            &rt,
-            rt.alloc(),
-            &mut script,
-            &mut view,
-            &["Request { time: 1, mode: Next }"],
-        )?;
+    )
+}
+
+// The script of words that are repeated a million times, so many deep, which count so many.
+fn million(
+    rt: &impl Abort,
+    alloc: Global,
+    depth: u32,
+    body: Words,
+    count: u64,
+) -> Result<Script, Fail> {
+    let words = nested(alloc, depth, 1_000_000, body)?;
+    assert_eq!(rt; words.count(), count);
+    Ok(script_of(alloc, words))
+}
+
+#[test]
+fn a_million_times_eight_deep(rt: HostRuntime) -> Result<(), Fail> {
+    let mut view = View::new(rt.alloc(), 0, 0)?;
+    let mut idle = Words::new(rt.alloc());
+    idle.push(Word::Echo(0))?;
+    let cases = [
+        (8, Words::new(rt.alloc()), 0, "Finish"),
+        (1, idle, 1_000_000, "Finish"),
+        (
+            8,
+            one_word(rt.alloc(), 1)?,
+            u64::MAX,
+            "Request { time: 1, mode: Next }",
+        ),
+    ];
+    for (depth, body, count, want) in cases {
+        let mut script = million(&rt, rt.alloc(), depth, body, count)?;
+        assert_gives(&rt, rt.alloc(), &mut script, &mut view, &[want, want, want])?;
     }
+    Ok(())
+}
+
+fn published(number: i64) -> Action
+    ensures { result ≡ Action.Publish 2 (Value.Int number) }
+{
+    Action::Publish {
+        publication: 2,
+        value: Value::Int(number),
+    }
+}
+
+#[test]
+fn initial_actions_come_one_after_another(rt: HostRuntime) -> Result<(), Fail> {
+    let mut initial = Items::new(rt.alloc());
+    initial.push(published(5))?;
+    initial.push(published(6))?;
+    let mut script = Script::of(initial, Words::new(rt.alloc()));
+    for number in [5, 6] {
+        let action = script.initial(rt.alloc())?.ok_or("initial")?;
+        assert!(rt;
+            matches!(&action, Action::Publish { publication: 2, value: Value::Int(given) } if *given == number)
+        );
+        script.advance_initial();
+    }
+    assert!(rt; script.initial(rt.alloc())?.is_none());
+    script.advance_initial();
     Ok(())
 }

@@ -1,5 +1,5 @@
 -- One input more is cleared, and at the end all are.
-use Rattle.std.proofs.Common.{◌≡◌, ◌+◌, ◌∙◌, ap, sym, add-one, arith, get_or, length}
+use Rattle.std.proofs.Common.{◌≡◌, ◌+◌, ◌∙◌, ap, add-one, arith, length}
 use Rattle.std.specs.Prelude.{slice_set}
 use Rattle.value_updates.specs.Input.{Input, after, starts_grant, opening}
 use Rattle.fed_script.proofs.Lists.{changed, changed_next, changed_all, changed_length}

@@ -1,6 +1,5 @@
 -- One letter more is delivered, and there is room for the others.
-use Rattle.std.proofs.Common.{◌≡◌, ℕ, ap, sym, subst, ◌∙◌, List, [], ◌∷◌, ◌++◌, get_or}
-use Rattle.std.specs.Prelude.{slice_set}
+use Rattle.std.proofs.Common.{◌≡◌, ℕ, ap, sym, subst, ◌∙◌, List, ◌∷◌}
 use Rattle.std.specs.Vec.Iter.{into_iter_items}
 use Rattle.endpoint_messages.specs.declared.Letter.{Letter}
 use Rattle.endpoint_messages.specs.Mail.{Mail}

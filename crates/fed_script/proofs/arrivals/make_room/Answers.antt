@@ -1,10 +1,10 @@
 -- One inbox more has room, and all letters stay.
-use Rattle.std.proofs.Common.{◌≡◌, ◌≤◌, ◌<◌, ◌+◌, ℕ, refl, ap, sym, subst, ◌∙◌, length, get_or, arith, inl, inr}
+use Rattle.std.proofs.Common.{◌≤◌, ℕ, ap, sym, subst, ◌∙◌, get_or, arith, inl, inr}
 use Rattle.std.specs.Prelude.{slice_set}
 use Rattle.std.proofs.lemmas.Bool.{cases_eq}
 use Rattle.std.proofs.lemmas.List.{length-set, get_or-set_same, get_or-set_other}
 use Rattle.endpoint_messages.specs.Mail.{Mail}
-use Rattle.fed_script.specs.Room.{letters_of, no_mail, count_for}
+use Rattle.fed_script.specs.Room.{no_mail, count_for}
 use Rattle.fed_script.proofs.Inboxes.{letters_kept}
 use Rattle.fed_script.proofs.arrivals.make_room.Goals as goal
 

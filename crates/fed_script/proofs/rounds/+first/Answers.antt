@@ -1,5 +1,5 @@
 -- The next word is that of the part at the place.
-use Rattle.std.proofs.Common.{◌≡◌, suc, drop, ◌++◌}
+use Rattle.std.proofs.Common.{suc, drop, ◌++◌}
 use Rattle.fed_script.specs.Round.{copies}
 use Rattle.fed_script.specs.Rounds.{unrolled, rest_of}
 use Rattle.fed_script.proofs.Lists.{first_append}

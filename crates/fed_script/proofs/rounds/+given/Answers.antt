@@ -1,7 +1,7 @@
 -- The first word that gives something stands in the part at the place, behind it, or in a later round.
-use Rattle.std.proofs.Common.{◌≡◌, ◌+◌, ◌-◌, suc, refl, ap, sym, ◌∙◌, drop, Some, None, arith}
+use Rattle.std.proofs.Common.{◌≡◌, ◌-◌, suc, refl, ap, sym, ◌∙◌, drop, Some, None, arith}
 use Rattle.std.specs.Prelude.{find}
-use Rattle.std.specs.Option.{option_copied, option_or}
+use Rattle.std.specs.Option.{option_copied}
 use Rattle.fed_script.specs.Round.{copies}
 use Rattle.fed_script.specs.Rounds.{rest_of, unrolled}
 use Rattle.fed_script.specs.Script.{gives}

@@ -1,11 +1,11 @@
 -- What rounds are after a word of the part at their place has passed.
-use Rattle.std.proofs.Common.{◌≡◌, ◌+◌, ◌-◌, ◌<◌, ◌≤◌, suc, length, drop, List, ◌∷◌, ◌++◌, refl, ap, sym, ◌∙◌, add-one, arith}
+use Rattle.std.proofs.Common.{◌≡◌, ◌+◌, ◌≤◌, suc, length, List, ◌∷◌, ap, sym, ◌∙◌, add-one, arith}
 use Rattle.std.specs.Prelude.{slice_set}
 use Rattle.std.proofs.lemmas.List.{length-set}
 use Rattle.fed_script.specs.declared.word.Word.{Word}
 use Rattle.fed_script.specs.Round.{copies}
-use Rattle.fed_script.specs.Rounds.{unrolled, rest_from, rest_of, words_of}
-use Rattle.fed_script.proofs.Parts.{rest_from_at, unrolled_set, others_set, all_set, others_of_all, goes_on, begins, ends, round, copies_first, no_copies}
+use Rattle.fed_script.specs.Rounds.{unrolled}
+use Rattle.fed_script.proofs.Parts.{unrolled_set, others_set, all_set, others_of_all, goes_on, begins, ends, round, no_copies}
 use Rattle.fed_script.proofs.rounds.+pass.Goals as goal
 
 pub Rounds::pass-invariant_of-self : goal.Rounds::pass-invariant_of-self

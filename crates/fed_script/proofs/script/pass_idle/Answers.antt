@@ -1,5 +1,5 @@
 -- A word that gives something is the first of those that do.
-use Rattle.std.proofs.Common.{◌≡◌, ap, sym, ◌∙◌}
+use Rattle.std.proofs.Common.{ap, sym, ◌∙◌}
 use Rattle.fed_script.specs.Round.{left_of}
 use Rattle.fed_script.specs.Script.{given_from}
 use Rattle.fed_script.proofs.Passing.{given_first}

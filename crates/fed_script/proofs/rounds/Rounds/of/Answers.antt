@@ -1,5 +1,5 @@
 -- Rounds that begin.
-use Rattle.std.proofs.Common.{arith, ◌<◌, length, zero, [], ◌∷◌, List, ◌≢◌, refl}
+use Rattle.std.proofs.Common.{arith, ◌<◌, length, [], ◌∷◌, List, ◌≢◌, refl}
 use Rattle.fed_script.specs.declared.rounds.Part.{Part}
 use Rattle.fed_script.proofs.Parts.{round, others_of_all}
 use Rattle.fed_script.proofs.rounds.Rounds.of.Goals as goal

@@ -1,5 +1,5 @@
 -- One action less is left.
-use Rattle.std.proofs.Common.{◌≡◌, ◌+◌, refl, subst, drop}
+use Rattle.std.proofs.Common.{refl, subst, drop}
 use Rattle.std.proofs.lemmas.List.{drop-drop}
 use Rattle.fed_script.specs.Script.{IsInitial}
 use Rattle.fed_script.proofs.Passing.{is_initial_after}

@@ -1,8 +1,7 @@
 -- The inbox at the endpoint's place, and none past the last.
-use Rattle.std.proofs.Common.{◌≡◌, refl, ap, sym, ◌∙◌, [], Some, None}
+use Rattle.std.proofs.Common.{◌≡◌, refl, ap, sym, ◌∙◌, Some, None}
 use Rattle.std.specs.Prelude.{slice_get}
 use Rattle.std.specs.Option.{option_copied}
-use Rattle.fed_script.specs.View.{letters_at}
 use Rattle.fed_script.proofs.Inboxes.{first_of-head, letters_past, letters_within}
 use Rattle.fed_script.proofs.view.View.oldest.Goals as goal
 

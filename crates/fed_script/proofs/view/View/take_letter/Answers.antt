@@ -1,5 +1,5 @@
 -- The inbox at the endpoint's place loses its oldest letter.
-use Rattle.std.proofs.Common.{◌≡◌, ap, sym, ◌∙◌, List, [], drop, get_or}
+use Rattle.std.proofs.Common.{ap, sym, ◌∙◌, List, [], drop, get_or}
 use Rattle.std.specs.Prelude.{slice_set}
 use Rattle.endpoint_messages.specs.declared.Letter.{Letter}
 use Rattle.endpoint_messages.specs.Mail.{Mail}

@@ -1,5 +1,5 @@
 -- A word more is fresh and counts one.
-use Rattle.std.proofs.Common.{◌≡◌, ◌+◌, ◌-◌, ◌^◌, min, ap, sym, subst, ◌∙◌, List, [], ◌∷◌, ◌++◌, length, arith}
+use Rattle.std.proofs.Common.{◌≡◌, ◌+◌, ◌-◌, ◌^◌, min, ap, sym, subst, ◌∙◌, [], ◌∷◌, ◌++◌, length, arith}
 use Rattle.std.proofs.lemmas.List.{length-append}
 use Rattle.fed_script.specs.declared.rounds.Part.{Part}
 use Rattle.fed_script.specs.declared.rounds.Part.TheVariants.{Word as SingleWord}
