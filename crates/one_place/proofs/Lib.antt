@@ -1,8 +1,16 @@
+pub mod Building
+pub mod Dependents
+pub mod Events
+pub mod Gathered
 pub mod Halting
+pub mod Lawful
 pub mod Mapped
 pub mod Opening
 pub mod Plans
+pub mod Publishing
+pub mod Puts
 pub mod Scripts
+pub mod Seating
 pub mod Seats
 pub mod Starting
 pub mod Turns

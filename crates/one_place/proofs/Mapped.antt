@@ -9,7 +9,7 @@ map_more f (x ∷ xs) zero d within = refl
 map_more {A = A} f (x ∷ xs) (suc i) d within = ap (λ (l : List A). f x ∷ l) (map_more f xs i d (omega arith))
 
 -- the next item is as it was
-map_at : {A : Type 0} (f : A → A) (xs : List A) (i : ℕ) (d : A) → i < length xs → slice_index_or (map f (take i xs) ++ drop i xs) i d ≡ slice_index_or xs i d
+pub map_at : {A : Type 0} (f : A → A) (xs : List A) (i : ℕ) (d : A) → i < length xs → slice_index_or (map f (take i xs) ++ drop i xs) i d ≡ slice_index_or xs i d
 map_at f [] i d within = absurd (omega arith)
 map_at f (x ∷ xs) zero d within = refl
 map_at f (x ∷ xs) (suc i) d within = map_at f xs i d (omega arith)

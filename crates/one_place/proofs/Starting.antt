@@ -1,44 +1,106 @@
 -- The reference run from its beginning to its logs.
-use Rattle.std.proofs.Common.{◌≡◌, ℕ, List, [], ◌∷◌, length, refl, sym, ◌∙◌, ap, subst, arith}
-use Rattle.std.specs.Prelude.{replicate}
+use Rattle.std.proofs.Common.{◌≡◌, ◌<◌, ◌+◌, ℕ, zero, suc, List, [], ◌∷◌, ◌++◌, length, drop, append_assoc, inl, inr, refl, sym, ◌∙◌, ap, subst, arith}
+use Rattle.std.specs.Prelude.{map, replicate, slice_index_or}
+use Rattle.std.proofs.lemmas.List.{drop_more, length_push}
+use Rattle.hel_lists.specs.Members.{Each}
+use Rattle.helics_time.specs.Settings.{Terms}
+use Rattle.fed_script.specs.Script.{Course, IsCourse}
 use Rattle.machine_laws.specs.declared.logs.FedLog.{FedLog}
-use Rattle.machine_laws.specs.Machine.{Member, logs_of}
+use Rattle.machine_laws.specs.Machine.{State, Member, begun_member, new_member, blank_member, default_terms, logs_of}
 use Rattle.machine_laws.specs.Moves.{Play, opening_play}
-use Rattle.one_place.specs.declared.plan.Action.{Action}
-use Rattle.one_place.specs.Plan.{wires_of}
-use Rattle.one_place.specs.Machine.{Stage}
-use Rattle.one_place.specs.Reference.{HasReferenceLogs}
-use Rattle.one_place.specs.Run.{wires_at, play_of, AreInScripts, PlaysOut, begun_stage}
+use Rattle.one_place.specs.declared.actor.Actor.{Actor}
+use Rattle.one_place.specs.declared.plan.Federate.{Federate}
+use Rattle.one_place.specs.Plan.{Federation, inputs_of, wires_of}
+use Rattle.one_place.specs.Reference.{course_at, first_sight, plays_of, HasReferenceLogs}
+use Rattle.one_place.specs.Run.{play_of, IsActor, AreActors, Goes, AreFollowing, actor_at, first_actors, PlaysOut, begun_stage}
 
--- each federate has its whole script before it
-begun_scripts : (names : List (List ℕ)) (scripts : List (List Action)) → length scripts ≡ length names →
-    AreInScripts (opening_play (wires_of names)).state.members (replicate (length scripts) 0) scripts
-begun_scripts [] [] same = tt
-begun_scripts [] (a ∷ more) same = cc
-begun_scripts (name ∷ names) [] same = cc
-begun_scripts (name ∷ names) (a ∷ more) same = ((λ lives. omega arith), begun_scripts names more (omega arith))
+-- one actor for each federate
+actors_count : (feds : List Federate) (scripts : List Course) → length scripts ≡ length feds → length (first_actors feds scripts) ≡ length feds
+actors_count [] scripts same = refl
+actors_count (fed ∷ feds) [] same = cc
+actors_count (fed ∷ feds) (script ∷ scripts) same = ap suc (actors_count feds scripts (omega (arith, same)))
 
--- and has called nothing
-begun_calls : (names : List (List ℕ)) (n : ℕ) → n ≡ length names → (opening_play (wires_of names)).calls ≡ replicate n 0
-begun_calls names n same = none names ∙ ap (λ (k : ℕ). replicate k 0) (sym same)
+members_count : (feds : List Federate) → length (map begun_member (map new_member (map (λ (fed : Federate). default_terms) feds))) ≡ length feds
+members_count [] = refl
+members_count (fed ∷ feds) = ap suc (members_count feds)
+
+begun_count : (p : Federation) → length (begun_stage p).state.members ≡ length p.federates
+begun_count p = members_count p.federates
+
+first_ready : (feds : List Federate) (scripts : List Course) → Each IsCourse scripts → Each IsActor (first_actors feds scripts)
+first_ready [] scripts rules a among = absurd among
+first_ready (fed ∷ feds) [] rules a among = absurd among
+first_ready (fed ∷ feds) (script ∷ scripts) rules a among = elim among [
+  | inl here ↦ subst IsActor (sym here) (record { rules = rules script (inl refl); letters = refl })
+  | inr later ↦ first_ready feds scripts (λ c is. rules c (inr is)) a later
+]
+
+pub first_are : (p : Federation) (scripts : List Course) → length scripts ≡ length p.federates → Each IsCourse scripts → AreActors (begun_stage p).state (first_actors p.federates scripts)
+first_are p scripts each rules = record { each = actors_count p.federates scripts each ∙ sym (begun_count p); all = first_ready p.federates scripts rules }
+
+-- one more actor
+pub actors_more : (feds : List Federate) (actors now : List Actor) (script : Course) (rest : List Course) (d : Federate) → length actors + length (script ∷ rest) ≡ length feds →
+    now ≡ actors ++ (record { script = script; view = first_sight (slice_index_or feds (length actors) d).inputs }) ∷ [] →
+    now ++ first_actors (drop (length now) feds) rest ≡ actors ++ first_actors (drop (length actors) feds) (script ∷ rest)
+actors_more feds actors now script rest d same is =
+    let new : Actor = record { script = script; view = first_sight (slice_index_or feds (length actors) d).inputs } in
+    let many : length now ≡ length actors + 1 = ap length is ∙ length_push actors new in
+    (λ i. is i ++ first_actors (drop (many i) feds) rest) ∙ append_assoc actors (new ∷ []) (first_actors (drop (length actors + 1) feds) rest)
+    ∙ ap (λ (xs : List Federate). actors ++ first_actors xs (script ∷ rest)) (sym (drop_more feds (length actors) d (omega (arith, same))))
+
+-- which has its whole script before it
+first_at : (feds : List Federate) (scripts : List Course) (f : ℕ) → length scripts ≡ length feds → actor_at (first_actors feds scripts) f ≡ record { script = course_at scripts f; view = first_sight (inputs_of feds f) }
+first_at [] [] f same = refl
+first_at [] (script ∷ scripts) f same = cc
+first_at (fed ∷ feds) [] f same = cc
+first_at (fed ∷ feds) (script ∷ scripts) zero same = refl
+first_at (fed ∷ feds) (script ∷ scripts) (suc f) same = first_at feds scripts f (omega (arith, same))
+
+-- and is Initializing
+begun_at : (feds : List Federate) (f : ℕ) → f < length feds → slice_index_or (map begun_member (map new_member (map (λ (fed : Federate). default_terms) feds))) f blank_member ≡ begun_member blank_member
+begun_at [] f within = absurd (omega arith)
+begun_at (fed ∷ feds) zero within = refl
+begun_at (fed ∷ feds) (suc f) within = begun_at feds f (omega arith)
+
+none_called : (n f : ℕ) → slice_index_or {A = ℕ} (replicate n 0) f 0 ≡ 0
+none_called zero f = refl
+none_called (suc n) zero = refl
+none_called (suc n) (suc f) = none_called n f
+
+-- no federate has called
+begun_calls : (p : Federation) → (opening_play (wires_of p)).calls ≡ replicate (length p.federates) 0
+begun_calls p = none p.federates
   where
-    none : (ns : List (List ℕ)) → (opening_play (wires_of ns)).calls ≡ replicate (length ns) 0
+    none : (feds : List Federate) → map {B = ℕ} (λ (s : Terms). 0) (map (λ (fed : Federate). default_terms) feds) ≡ replicate (length feds) 0
     none [] = refl
-    none (n ∷ ns) = ap (λ (l : List ℕ). 0 ∷ l) (none ns)
+    none (fed ∷ feds) = ap (λ (l : List ℕ). 0 ∷ l) (none feds)
 
-pub starts : (s : Stage) (counts_now : List ℕ) (scripts : List (List Action)) → s ≡ begun_stage s.plan → length scripts ≡ length s.plan.names → counts_now ≡ replicate (length scripts) 0 →
-    AreInScripts s.state.members counts_now scripts
-starts s cs scripts begun each none =
-    let ms : List Member = (begun_stage s.plan).state.members in
-    let at : AreInScripts ms (replicate (length scripts) 0) scripts = begun_scripts s.plan.names scripts each in
-    let members : s.state.members ≡ ms = ap (λ (t : Stage). t.state.members) begun in
-    subst (λ (l : List Member). AreInScripts l cs scripts) (sym members) (subst (λ (l : List ℕ). AreInScripts ms l scripts) (sym none) at)
+count_calls : (n : ℕ) → length {A = ℕ} (replicate n 0) ≡ n
+count_calls zero = refl
+count_calls (suc n) = ap suc (count_calls n)
+
+pub first_follow : (p : Federation) (scripts : List Course) → length scripts ≡ length p.federates →
+    AreFollowing (plays_of p scripts) (begun_stage p).state (replicate (length p.federates) 0) (first_actors p.federates scripts)
+first_follow p scripts each =
+    let n : ℕ = length p.federates in
+    record {
+      counts = count_calls n ∙ sym (begun_count p);
+      go = λ f within.
+          (let known : f < length p.federates = let all = begun_count p in omega (arith, within, all) in
+          let member = begun_at p.federates f known in
+          subst (λ (m : Member). Goes (plays_of p scripts) f m (slice_index_or (replicate n 0) f 0) (actor_at (first_actors p.federates scripts) f)) (sym member)
+          (subst (λ k. Goes (plays_of p scripts) f (begun_member blank_member) k (actor_at (first_actors p.federates scripts) f)) (sym (none_called n f))
+          (subst (λ (a : Actor). Goes (plays_of p scripts) f (begun_member blank_member) 0 a) (sym (first_at p.federates scripts f each)) (at_first f))));
+    }
+  where
+    at_first : (f : ℕ) → Goes (plays_of p scripts) f (begun_member blank_member) 0 (record { script = course_at scripts f; view = first_sight (inputs_of p.federates f) })
+    at_first f lives more k = let same : 0 + k ≡ k = omega arith in ap (λ j. plays_of p scripts f j more) same
 
 -- what is played out to its end is the reference run
-pub reference_logs : (s : Stage) (counts_now : List ℕ) (scripts : List (List Action)) (end : Stage) (counts_then : List ℕ) (logs : List FedLog) → s ≡ begun_stage s.plan →
-    length scripts ≡ length s.plan.names → counts_now ≡ replicate (length scripts) 0 → PlaysOut (wires_at s) scripts (play_of s counts_now) (play_of end counts_then) →
-    logs ≡ logs_of end.state → HasReferenceLogs s.plan.names scripts logs
-reference_logs s cs scripts end ds logs begun each none out are =
-    let opening : play_of s cs ≡ opening_play (wires_of s.plan.names) = λ i. record { state = (begun i).state; calls = (none ∙ sym (begun_calls s.plan.names (length scripts) each)) i } in
-    let run : PlaysOut (wires_at s) scripts (opening_play (wires_of s.plan.names)) (play_of end ds) = subst (λ (w : Play). PlaysOut (wires_at s) scripts w (play_of end ds)) opening out in
-    record { feds = run.0; end = play_of end ds; run = run.1; logs_are = are }
+pub reference_logs : (p : Federation) (scripts : List Course) (end : State) (last : List ℕ) (logs : List FedLog) →
+    PlaysOut (wires_of p) (plays_of p scripts) (play_of (begun_stage p) (replicate (length p.federates) 0)) (record { state = end; calls = last }) → logs ≡ logs_of end →
+    HasReferenceLogs p scripts logs
+reference_logs p scripts end last logs out are =
+    let opening : play_of (begun_stage p) (replicate (length p.federates) 0) ≡ opening_play (wires_of p) = λ i. record { state = (begun_stage p).state; calls = sym (begun_calls p) i } in
+    let run = subst (λ (w : Play). PlaysOut (wires_of p) (plays_of p scripts) w (record { state = end; calls = last })) opening out in
+    record { feds = run.0; end = record { state = end; calls = last }; run = run.1; logs_are = are }

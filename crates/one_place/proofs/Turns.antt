@@ -1,26 +1,30 @@
 -- Turns of the reference run as moves of scripted federates.
-use Rattle.std.proofs.Common.{◌≡◌, ◌<◌, ◌+◌, ◌*◌, ℕ, Bool, true, false, List, [], ◌∷◌, length, Option, Some, None, inl, inr, refl, sym, ◌∙◌, ap, subst, arith}
+use Rattle.std.proofs.Common.{◌≡◌, ◌⊎◌, ◌<◌, ◌+◌, ℕ, zero, suc, Bool, true, false, List, [], ◌∷◌, ◌++◌, length, Option, Some, None, inl, inr, refl, sym, ◌∙◌, ap, subst, arith, append_assoc, length-set}
 use Rattle.std.specs.Prelude.{slice_index_or, slice_set, option_map, is_none, if◌then◌else◌}
-use Rattle.std.proofs.lemmas.Bool.{false≢true, true≢false, cases_lt}
-use Rattle.std.proofs.lemmas.List.{set-get_or}
+use Rattle.std.proofs.lemmas.Bool.{cases_eq, cases_lt, false≢true, true≢false}
+use Rattle.std.proofs.lemmas.List.{append-nil, get_or-set_same, get_or-set_other, set-get_or}
+use Rattle.hel_lists.specs.Members.{Each}
 use Rattle.time_state.specs.Fed.{is_asking, is_live}
 use Rattle.time_state.specs.declared.Phase.{Phase}
 use Rattle.time_state.specs.declared.Phase.TheVariants.{Created, Initializing, Entering, Running, Waiting, Ended}
+use Rattle.endpoint_messages.specs.declared.Letter.{Letter}
+use Rattle.fed_script.specs.View.{Sight, delivered, letters_in}
+use Rattle.machine_laws.specs.declared.logs.LogEntry.{LogEntry}
 use Rattle.machine_laws.specs.declared.refusal.CallRefusal.{CallRefusal}
 use Rattle.machine_laws.specs.declared.refusal.Unlawful.{Unlawful}
 use Rattle.machine_laws.specs.Plan.{Plan}
-use Rattle.machine_laws.specs.Machine.{State, Member, Step, member_at, dues_to, handed_in, granted_member, refusal_of, after}
+use Rattle.machine_laws.specs.Machine.{State, Member, Step, blank_member, member_at, dues_to, handed_in, granted_member, refusal_of, after}
 use Rattle.machine_laws.specs.Machine.Step.{grant}
-use Rattle.machine_laws.specs.Moves.{Doing, Play, step_by, or_failure, doing_refusal, call_by, calls_of, in_turn, if_lawful, is_call, moved, move}
+use Rattle.machine_laws.specs.Moves.{Doing, Scripts, Play, step_by, or_failure, doing_refusal, call_by, calls_of, in_turn, if_lawful, is_call, moved, move}
 use Rattle.machine_laws.specs.Moves.Doing.{enters, makes, requests, finishes, fails}
-use Rattle.one_place.specs.declared.plan.Action.{Action}
-use Rattle.one_place.specs.declared.plan.Plan.{Plan as Names}
-use Rattle.one_place.specs.Plan.{wires_of}
+use Rattle.one_place.specs.declared.actor.Actor.{Actor}
+use Rattle.one_place.specs.Plan.{Federation, wires_of}
 use Rattle.one_place.specs.Machine.{Stage}
-use Rattle.one_place.specs.Reference.{plays_of, script_at}
-use Rattle.one_place.specs.Run.{wires_at, play_of, may_move, is_calling, calling_step, IsNextToMove, AreInScripts, PlaysOut}
-use Rattle.one_place.proofs.Scripts.{calling_known, strange_stays}
-use Rattle.one_place.proofs.Work.{weight, work, calls_left, still_calls, calling_still, scripts_set, work_falls, next_called}
+use Rattle.one_place.specs.Reference.{no_names, taken_over}
+use Rattle.one_place.specs.Run.{wires_at, play_of, may_move, is_calling, going, passed, calling_step, entry_in, step_at, actor_after, IsActor, AreActors, Goes, actor_at, AreFollowing, IsNextToMove, PlaysOut}
+use Rattle.one_place.proofs.Building.{each_at}
+use Rattle.one_place.proofs.Scripts.{calling_known, strange_stays, initial_passed, words_passed, seen_letters}
+use Rattle.one_place.proofs.Work.{weight, work, Called, work_falls, next_called}
 
 -- a call or a failure counts as a call
 counts : (p : Plan) (f : ℕ) (m : Member) (doing : Doing) → is_call (call_by p f m doing) ≡ true
@@ -50,34 +54,71 @@ asks_then Initializing call grants asking = absurd (false≢true asking)
 asks_then Running call grants asking = absurd (false≢true asking)
 asks_then (Ended cause) call grants asking = absurd (false≢true asking)
 
+-- which phases call, wait or live
+calling_lives : (q : Phase) → is_calling q ≡ true → is_live q ≡ true
+calling_lives Created calling = refl
+calling_lives Initializing calling = refl
+calling_lives Entering calling = refl
+calling_lives Running calling = refl
+calling_lives Waiting calling = refl
+calling_lives (Ended cause) calling = absurd (false≢true calling)
+
+asking_lives : (q : Phase) → is_asking q ≡ true → is_live q ≡ true
+asking_lives Created asking = refl
+asking_lives Initializing asking = refl
+asking_lives Entering asking = refl
+asking_lives Running asking = refl
+asking_lives Waiting asking = refl
+asking_lives (Ended cause) asking = absurd (false≢true asking)
+
+asking_calls_not : (q : Phase) → is_asking q ≡ true → is_calling q ≡ false
+asking_calls_not Created asking = absurd (false≢true asking)
+asking_calls_not Initializing asking = absurd (false≢true asking)
+asking_calls_not Entering asking = refl
+asking_calls_not Running asking = absurd (false≢true asking)
+asking_calls_not Waiting asking = refl
+asking_calls_not (Ended cause) asking = absurd (false≢true asking)
+
+live_not_ended : (q : Phase) → is_live q ≡ true → (c : _) → q ≡ Ended c → ⊥
+live_not_ended q lives c ended = let no = rw ended at lives in false≢true no
+
+-- what a federate does now
+doing_now : (plays : Scripts) (f : ℕ) (m : Member) (calls : ℕ) (a : Actor) → Goes plays f m calls a → is_live m.time.phase ≡ true → plays f calls m.log ≡ going m.time.phase a [] zero
+doing_now plays f m calls a go lives =
+    let at : calls + 0 ≡ calls = omega arith in
+    sym (ap (λ k. plays f k (m.log ++ [])) at ∙ ap (plays f calls) (append-nil m.log)) ∙ go lives [] zero
+
 -- a federate that calls moves by its next call
-pub call_moves : (s : Stage) (scripts : List (List Action)) (counts_now : List ℕ) (f : ℕ) → is_calling (member_at s.state f).time.phase ≡ true →
-    move (wires_at s) (plays_of scripts) f (play_of s counts_now)
-    ≡ Some (record { state = after (wires_at s) s.state (calling_step s f (script_at scripts f) (slice_index_or counts_now f 0)); calls = slice_set counts_now f (slice_index_or counts_now f 0 + 1) })
-call_moves s scripts cs f calling =
+call_moves : (s : Stage) (plays : Scripts) (calls : List ℕ) (f : ℕ) (a : Actor) → Goes plays f (member_at s.state f) (slice_index_or calls f 0) a →
+    is_calling (member_at s.state f).time.phase ≡ true →
+    move (wires_at s) plays f (play_of s calls)
+    ≡ Some (record { state = after (wires_at s) s.state (calling_step s f a); calls = slice_set calls f (slice_index_or calls f 0 + 1) })
+call_moves s plays cs f a go calling =
     let p : Plan = wires_at s in
     let w : Play = play_of s cs in
     let m : Member = member_at s.state f in
-    let doing : Doing = plays_of scripts f (calls_of w f) m.log in
+    let doing : Doing = going m.time.phase a [] zero in
     let grants : Option Step = if_lawful (refusal_of p s.state (grant f)) (grant f) in
     let t : State = after p s.state (call_by p f m doing) in
-    ap (λ (step : Option Step). option_map (moved p w f) step) (calls_then m.time.phase (Some (call_by p f m doing)) grants calling)
+    ap (λ (d : Doing). option_map (moved p w f) (in_turn m.time.phase (Some (call_by p f m d)) grants))
+    (doing_now plays f m (slice_index_or cs f 0) a go (calling_lives m.time.phase calling))
+    ∙ ap (λ (step : Option Step). option_map (moved p w f) step) (calls_then m.time.phase (Some (call_by p f m doing)) grants calling)
     ∙ ap (λ (b : Bool). let next : Play = record { state = t; calls = if b then slice_set cs f (calls_of w f + 1) else cs } in Some next) (counts p f m doing)
 
 -- a federate that waits moves by its grant, where that is lawful
-pub grant_moves : (s : Stage) (scripts : List (List Action)) (counts_now : List ℕ) (f : ℕ) → is_asking (member_at s.state f).time.phase ≡ true → refusal_of (wires_at s) s.state (grant f) ≡ None →
-    move (wires_at s) (plays_of scripts) f (play_of s counts_now) ≡ Some (record { state = after (wires_at s) s.state (grant f); calls = counts_now })
-grant_moves s scripts cs f asking lawful =
+grant_moves : (s : Stage) (plays : Scripts) (calls : List ℕ) (f : ℕ) → is_asking (member_at s.state f).time.phase ≡ true → refusal_of (wires_at s) s.state (grant f) ≡ None →
+    move (wires_at s) plays f (play_of s calls) ≡ Some (record { state = after (wires_at s) s.state (grant f); calls = calls })
+grant_moves s plays cs f asking lawful =
     let p : Plan = wires_at s in
     let w : Play = play_of s cs in
     let m : Member = member_at s.state f in
-    let call : Step = call_by p f m (plays_of scripts f (calls_of w f) m.log) in
+    let call : Step = call_by p f m (plays f (slice_index_or cs f 0) m.log) in
     ap (λ (step : Option Step). option_map (moved p w f) step)
     (asks_then m.time.phase (Some call) (if_lawful (refusal_of p s.state (grant f)) (grant f)) asking ∙ ap (λ (r : Option Unlawful). if_lawful r (grant f)) lawful)
 
 -- a federate that may not act doesn't move
-pub stays : (s : Stage) (scripts : List (List Action)) (counts_now : List ℕ) (f : ℕ) → may_move s f ≡ false → move (wires_at s) (plays_of scripts) f (play_of s counts_now) ≡ None
-stays s scripts cs f not = by_phase (member_at s.state f).time.phase refl
+stays : (s : Stage) (plays : Scripts) (calls : List ℕ) (f : ℕ) → may_move s f ≡ false → move (wires_at s) plays f (play_of s calls) ≡ None
+stays s plays cs f not = by_phase (member_at s.state f).time.phase refl
   where
     p : Plan
     p = wires_at s
@@ -86,13 +127,13 @@ stays s scripts cs f not = by_phase (member_at s.state f).time.phase refl
     refused None step some = absurd (true≢false some)
     refused (Some e) step some = refl
 
-    idle : (q : Phase) → (member_at s.state f).time.phase ≡ q → in_turn q (Some (call_by p f (member_at s.state f) (plays_of scripts f (slice_index_or cs f 0) (member_at s.state f).log))) (if_lawful (refusal_of p s.state (grant f)) (grant f)) ≡ None → move p (plays_of scripts) f (play_of s cs) ≡ None
+    idle : (q : Phase) → (member_at s.state f).time.phase ≡ q → in_turn q (Some (call_by p f (member_at s.state f) (plays f (slice_index_or cs f 0) (member_at s.state f).log))) (if_lawful (refusal_of p s.state (grant f)) (grant f)) ≡ None → move p plays f (play_of s cs) ≡ None
     idle q is none =
-        let call : Step = call_by p f (member_at s.state f) (plays_of scripts f (slice_index_or cs f 0) (member_at s.state f).log) in
+        let call : Step = call_by p f (member_at s.state f) (plays f (slice_index_or cs f 0) (member_at s.state f).log) in
         let grants : Option Step = if_lawful (refusal_of p s.state (grant f)) (grant f) in
         ap (λ (r : Phase). option_map (moved p (play_of s cs) f) (in_turn r (Some call) grants)) is ∙ ap (λ (step : Option Step). option_map (moved p (play_of s cs) f) step) none
 
-    by_phase : (q : Phase) → (member_at s.state f).time.phase ≡ q → move p (plays_of scripts) f (play_of s cs) ≡ None
+    by_phase : (q : Phase) → (member_at s.state f).time.phase ≡ q → move p plays f (play_of s cs) ≡ None
     by_phase Created is = idle Created is refl
     by_phase (Ended cause) is = idle (Ended cause) is refl
     by_phase Initializing is = let moves = rw is at not in absurd (true≢false moves)
@@ -105,93 +146,200 @@ none_of None none = refl
 none_of (Some e) none = absurd (false≢true none)
 
 -- a federate that may act is one of the machine's
-moving_known : (s : Stage) (f : ℕ) → may_move s f ≡ true → f < length s.state.members
+pub moving_known : (s : Stage) (f : ℕ) → may_move s f ≡ true → f < length s.state.members
 moving_known s f may = elim (cases_lt f (length s.state.members)) [
   | inl within ↦ within
   | inr over ↦ absurd (false≢true (sym (strange_stays s f over) ∙ may))
 ]
 
-asking_weight : (q : Phase) (left : ℕ) → is_asking q ≡ true → weight q left ≡ 2 * left + 1
-asking_weight Entering left asking = refl
-asking_weight Waiting left asking = refl
-asking_weight Created left asking = absurd (false≢true asking)
-asking_weight Initializing left asking = absurd (false≢true asking)
-asking_weight Running left asking = absurd (false≢true asking)
-asking_weight (Ended cause) left asking = absurd (false≢true asking)
+-- one that may act calls, or waits for a grant that is lawful
+pub record MayTurn (s : Stage) (f : ℕ) : Type 0 where
+  pub asks : is_asking (member_at s.state f).time.phase ≡ true
+  pub lawful : refusal_of (wires_at s) s.state (grant f) ≡ None
 
-asking_lives : (q : Phase) → is_asking q ≡ true → is_live q ≡ true
-asking_lives Entering asking = refl
-asking_lives Waiting asking = refl
-asking_lives Created asking = refl
-asking_lives Initializing asking = refl
-asking_lives Running asking = refl
-asking_lives (Ended cause) asking = absurd (false≢true asking)
-
--- a move of a federate that may act leaves less work, and one script and count for each member
-pub record Moved (w next : Play) (scripts : List (List Action)) : Type 0 where
-  pub within : AreInScripts next.state.members next.calls scripts
-  pub falls : work next.state.members next.calls scripts < work w.state.members w.calls scripts
-
-pub move_falls : (s : Stage) (scripts : List (List Action)) (counts_now : List ℕ) (f : ℕ) (next : Play) → AreInScripts s.state.members counts_now scripts → may_move s f ≡ true →
-    move (wires_at s) (plays_of scripts) f (play_of s counts_now) ≡ Some next → Moved (play_of s counts_now) next scripts
-move_falls s scripts cs f next within may moves = by_phase (member_at s.state f).time.phase refl
+pub calls_or_asks : (s : Stage) (f : ℕ) → may_move s f ≡ true → (is_calling (member_at s.state f).time.phase ≡ true) ⊎ MayTurn s f
+calls_or_asks s f may = by_phase (member_at s.state f).time.phase refl
   where
-    p : Plan
-    p = wires_at s
-
-    ms : List Member
-    ms = s.state.members
-
-    same : (w : Play) → move p (plays_of scripts) f (play_of s cs) ≡ Some w → w ≡ next
-    same w is = let e : Some w ≡ Some next = sym is ∙ moves in cc
-
-    called : is_calling (member_at s.state f).time.phase ≡ true → Moved (play_of s cs) next scripts
-    called calling =
-        let c : ℕ = slice_index_or cs f 0 in
-        let known = calling_known s.state f calling in
-        let step = next_called p s.state f (script_at scripts f) c calling (calling_still ms cs scripts f within known calling) in
-        let t : State = after p s.state (calling_step s f (script_at scripts f) c) in
-        let w : Play = record { state = t; calls = slice_set cs f (c + 1) } in
-        let there : Moved (play_of s cs) w scripts = record {
-          within = subst (λ (l : List Member). AreInScripts l (slice_set cs f (c + 1)) scripts) (sym step.members) (scripts_set ms cs scripts f step.member (c + 1) within step.still);
-          falls = subst (λ (l : List Member). work l (slice_set cs f (c + 1)) scripts < work ms cs scripts) (sym step.members) (work_falls ms cs scripts f step.member (c + 1) within known step.falls);
-        } in
-        subst (λ (v : Play). Moved (play_of s cs) v scripts) (same w (call_moves s scripts cs f calling)) there
-
-    granted : is_asking (member_at s.state f).time.phase ≡ true → refusal_of p s.state (grant f) ≡ None → Moved (play_of s cs) next scripts
-    granted asking lawful =
-        let c : ℕ = slice_index_or cs f 0 in
-        let m : Member = member_at s.state f in
-        let known = moving_known s f may in
-        let n : Member = granted_member m (dues_to s.state.items f) (handed_in s.state f) in
-        let w : Play = record { state = after p s.state (grant f); calls = cs } in
-        let left : ℕ = calls_left (script_at scripts f) c in
-        let waits = asking_weight m.time.phase left asking in
-        let runs : AreInScripts (slice_set ms f n) (slice_set cs f c) scripts =
-        scripts_set ms cs scripts f n c within (λ lives. still_calls ms cs scripts f within known (asking_lives m.time.phase asking)) in
-        let less : work (slice_set ms f n) (slice_set cs f c) scripts < work ms cs scripts = work_falls ms cs scripts f n c within known (omega (arith, waits)) in
-        let there : Moved (play_of s cs) w scripts = record {
-          within = subst (λ (l : List ℕ). AreInScripts (slice_set ms f n) l scripts) (set-get_or cs f 0) runs;
-          falls = subst (λ (l : List ℕ). work (slice_set ms f n) l scripts < work ms cs scripts) (set-get_or cs f 0) less;
-        } in
-        subst (λ (v : Play). Moved (play_of s cs) v scripts) (same w (grant_moves s scripts cs f asking lawful)) there
-
-    by_phase : (q : Phase) → (member_at s.state f).time.phase ≡ q → Moved (play_of s cs) next scripts
-    by_phase Initializing is = called (rw is refl)
-    by_phase Running is = called (rw is refl)
-    by_phase Entering is = let passes = rw is at may in granted (rw is refl) (none_of _ passes)
-    by_phase Waiting is = let passes = rw is at may in granted (rw is refl) (none_of _ passes)
+    by_phase : (q : Phase) → (member_at s.state f).time.phase ≡ q → (is_calling (member_at s.state f).time.phase ≡ true) ⊎ MayTurn s f
+    by_phase Initializing is = inl (rw is refl)
+    by_phase Running is = inl (rw is refl)
+    by_phase Entering is = let passes = rw is at may in inr (record { asks = rw is refl; lawful = none_of _ passes })
+    by_phase Waiting is = let passes = rw is at may in inr (record { asks = rw is refl; lawful = none_of _ passes })
     by_phase Created is = let no = rw is at may in absurd (false≢true no)
     by_phase (Ended cause) is = let no = rw is at may in absurd (false≢true no)
 
+-- an actor keeps its facts as it goes on
+passed_actor : (q : Phase) (a : Actor) → IsActor a → IsActor (passed q a)
+passed_actor Running a is = record { rules = words_passed a.script a.view is.rules; letters = seen_letters a.view a.script.words is.letters }
+passed_actor Created a is = record { rules = initial_passed a.script is.rules; letters = is.letters }
+passed_actor Initializing a is = record { rules = initial_passed a.script is.rules; letters = is.letters }
+passed_actor Entering a is = record { rules = initial_passed a.script is.rules; letters = is.letters }
+passed_actor Waiting a is = record { rules = initial_passed a.script is.rules; letters = is.letters }
+passed_actor (Ended cause) a is = record { rules = initial_passed a.script is.rules; letters = is.letters }
+
+-- without inboxes no letter comes by a grant
+none_delivered : (letters : List (ℕ × Letter)) → delivered [] letters ≡ []
+none_delivered [] = refl
+none_delivered (l ∷ letters) = none_delivered letters
+
+granted_actor : (a : Actor) (e : LogEntry) → IsActor a → IsActor (record a { view = taken_over a.view e })
+granted_actor a e is =
+    record { rules = is.rules; letters = ap (λ (inboxes : List (List Letter)). delivered inboxes (letters_in no_names e.items)) is.letters ∙ none_delivered (letters_in no_names e.items) }
+
+each_set : {A : Type 0} (P : A → Type 0) (xs : List A) (i : ℕ) (y : A) → Each P xs → P y → Each P (slice_set xs i y)
+each_set P [] i y each new x among = absurd among
+each_set P (z ∷ xs) zero y each new x among = elim among [ inl here ↦ subst P (sym here) new | inr later ↦ each x (inr later) ]
+each_set P (z ∷ xs) (suc i) y each new x among = elim among [
+  | inl here ↦ subst P (sym here) (each z (inl refl))
+  | inr later ↦ each_set P xs i y (λ w is. each w (inr is)) new x later
+]
+
+-- the actors after one turn
+actors_set : (s t : State) (actors : List Actor) (f : ℕ) (n : Member) (b : Actor) → AreActors s actors → t.members ≡ slice_set s.members f n → IsActor b → AreActors t (slice_set actors f b)
+actors_set s t actors f n b ready members is =
+    let many : length t.members ≡ length s.members = ap length members ∙ length-set s.members f n in
+    record { each = length-set actors f b ∙ ready.each ∙ sym many; all = each_set IsActor actors f b ready.all is }
+
+-- what another federate does stays
+following_set : (plays : Scripts) (s t : State) (calls : List ℕ) (actors : List Actor) (f : ℕ) (n : Member) (c : ℕ) (b : Actor) → AreFollowing plays s calls actors →
+    length actors ≡ length s.members → f < length s.members → t.members ≡ slice_set s.members f n → Goes plays f n c b → AreFollowing plays t (slice_set calls f c) (slice_set actors f b)
+following_set plays s t cs actors f n c b follows each known members own =
+    let many : length t.members ≡ length s.members = ap length members ∙ length-set s.members f n in
+    let counted : length cs ≡ length s.members = follows.counts in
+    record {
+      counts = length-set cs f c ∙ counted ∙ sym many;
+      go = λ g within. elim (cases_eq g f) [
+        | inl same ↦
+            let member : member_at t g ≡ n = (λ i. slice_index_or (members i) (same i) blank_member) ∙ get_or-set_same s.members f n blank_member known in
+            let count : slice_index_or (slice_set cs f c) g 0 ≡ c = ap (λ k. slice_index_or (slice_set cs f c) k 0) same ∙ get_or-set_same cs f c 0 (omega (arith, known, counted)) in
+            let actor : actor_at (slice_set actors f b) g ≡ b = ap (actor_at (slice_set actors f b)) same ∙ get_or-set_same actors f b _ (omega (arith, known, each)) in
+            subst (λ k. Goes plays k (member_at t g) (slice_index_or (slice_set cs f c) g 0) (actor_at (slice_set actors f b) g)) (sym same)
+            (subst (λ (m : Member). Goes plays f m (slice_index_or (slice_set cs f c) g 0) (actor_at (slice_set actors f b) g)) (sym member)
+            (subst (λ k. Goes plays f n k (actor_at (slice_set actors f b) g)) (sym count) (subst (λ (x : Actor). Goes plays f n c x) (sym actor) own)))
+        | inr other ↦
+            let member : member_at t g ≡ member_at s g = ap (λ (ms : List Member). slice_index_or ms g blank_member) members ∙ get_or-set_other s.members f g n blank_member other in
+            let count : slice_index_or (slice_set cs f c) g 0 ≡ slice_index_or cs g 0 = get_or-set_other cs f g c 0 other in
+            let actor : actor_at (slice_set actors f b) g ≡ actor_at actors g = get_or-set_other actors f g b _ other in
+            subst (λ (m : Member). Goes plays g m (slice_index_or (slice_set cs f c) g 0) (actor_at (slice_set actors f b) g)) (sym member)
+            (subst (λ k. Goes plays g (member_at s g) k (actor_at (slice_set actors f b) g)) (sym count)
+            (subst (λ (x : Actor). Goes plays g (member_at s g) (slice_index_or cs g 0) x) (sym actor) (follows.go g (omega (arith, within, many)))))
+      ];
+    }
+
+-- what a federate does after a call
+goes_called : (plays : Scripts) (s t : State) (f c : ℕ) (a : Actor) (called : Called s f a t) → Goes plays f (member_at s f) c a → is_calling (member_at s f).time.phase ≡ true →
+    Goes plays f called.member (c + 1) (passed (member_at s f).time.phase a)
+goes_called plays s t f c a called go calling lives more k =
+    let at : c + 1 + k ≡ c + suc k = omega arith in
+    (λ i. plays f (at i) (called.log i ++ more)) ∙ go (calling_lives (member_at s f).time.phase calling) more (suc k)
+    ∙ called.goes (live_not_ended called.member.time.phase lives) more k
+
+-- and after a grant
+goes_granted : (plays : Scripts) (s : State) (f c : ℕ) (a : Actor) → Goes plays f (member_at s f) c a → is_asking (member_at s f).time.phase ≡ true →
+    Goes plays f (granted_member (member_at s f) (dues_to s.items f) (handed_in s f)) c (record a { view = taken_over a.view (entry_in s f) })
+goes_granted plays s f c a go asking lives more k =
+    let m : Member = member_at s f in
+    ap (plays f (c + k)) (append_assoc m.log (entry_in s f ∷ []) more) ∙ go (asking_lives m.time.phase asking) (entry_in s f ∷ more) k ∙ waited m.time.phase asking
+  where
+    waited : (q : Phase) → is_asking q ≡ true → going q a (entry_in s f ∷ more) k ≡ going Running (record a { view = taken_over a.view (entry_in s f) }) more k
+    waited Entering asks = refl
+    waited Waiting asks = refl
+    waited Created asks = absurd (false≢true asks)
+    waited Initializing asks = absurd (false≢true asks)
+    waited Running asks = absurd (false≢true asks)
+    waited (Ended cause) asks = absurd (false≢true asks)
+
+waiting_weight : (q : Phase) (a : Actor) (v : Sight) → is_asking q ≡ true → weight Running (record a { view = v }) < weight q a
+waiting_weight Entering a v asks = omega arith
+waiting_weight Waiting a v asks = omega arith
+waiting_weight Created a v asks = absurd (false≢true asks)
+waiting_weight Initializing a v asks = absurd (false≢true asks)
+waiting_weight Running a v asks = absurd (false≢true asks)
+waiting_weight (Ended cause) a v asks = absurd (false≢true asks)
+
+-- what one turn leaves: as many actors as members, less work, and a move of the scripts that they follow
+pub record IsTurned (s : Stage) (f : ℕ) (actors : List Actor) (t : Stage) (rest : List Actor) : Type 0 where
+  pub ready : AreActors t.state rest
+  pub falls : work t.state.members rest < work s.state.members actors
+  pub moves : (plays : Scripts) (calls : List ℕ) → AreFollowing plays s.state calls actors →
+      (next : List ℕ) × (move (wires_at s) plays f (play_of s calls) ≡ Some (play_of t next)) × AreFollowing plays t.state next rest
+
+called_turn : (s : Stage) (f : ℕ) (actors : List Actor) → AreActors s.state actors → is_calling (member_at s.state f).time.phase ≡ true →
+    IsTurned s f actors (record s { state = after (wires_at s) s.state (calling_step s f (actor_at actors f)) }) (slice_set actors f (passed (member_at s.state f).time.phase (actor_at actors f)))
+called_turn s f actors ready calling =
+    let a : Actor = actor_at actors f in
+    let q : Phase = (member_at s.state f).time.phase in
+    let known = calling_known s.state f calling in
+    let each : length actors ≡ length s.state.members = ready.each in
+    let is : IsActor a = each_at IsActor actors f _ ready.all (omega (arith, known, each)) in
+    let t : State = after (wires_at s) s.state (calling_step s f a) in
+    let called = next_called (wires_at s) s.state f a is calling in
+    record {
+      ready = actors_set s.state t actors f called.member (passed q a) ready called.members (passed_actor q a is);
+      falls =
+          subst (λ (ms : List Member). work ms (slice_set actors f (passed q a)) < work s.state.members actors) (sym called.members)
+          (work_falls s.state.members actors f called.member (passed q a) _ each known called.falls);
+      moves = λ plays cs follows.
+          (let go = follows.go f known in
+          let own = goes_called plays s.state t f (slice_index_or cs f 0) a called go calling in (
+            slice_set cs f (slice_index_or cs f 0 + 1),
+            call_moves s plays cs f a go calling,
+            following_set plays s.state t cs actors f called.member (slice_index_or cs f 0 + 1) (passed q a) follows each known called.members own,
+          ));
+    }
+
+granted_turn : (s : Stage) (f : ℕ) (actors : List Actor) → AreActors s.state actors → MayTurn s f → f < length s.state.members →
+    IsTurned s f actors (record s { state = after (wires_at s) s.state (grant f) }) (slice_set actors f (record (actor_at actors f) { view = taken_over (actor_at actors f).view (entry_in s.state f) }))
+granted_turn s f actors ready may known =
+    let a : Actor = actor_at actors f in
+    let m : Member = member_at s.state f in
+    let b : Actor = record a { view = taken_over a.view (entry_in s.state f) } in
+    let n : Member = granted_member m (dues_to s.state.items f) (handed_in s.state f) in
+    let each : length actors ≡ length s.state.members = ready.each in
+    let is : IsActor a = each_at IsActor actors f _ ready.all (omega (arith, known, each)) in
+    let t : State = after (wires_at s) s.state (grant f) in
+    record {
+      ready = actors_set s.state t actors f n b ready refl (granted_actor a (entry_in s.state f) is);
+      falls = work_falls s.state.members actors f n b _ each known (waiting_weight m.time.phase a b.view may.asks);
+      moves = λ plays cs follows.
+          (let own = goes_granted plays s.state f (slice_index_or cs f 0) a (follows.go f known) may.asks in (
+            cs,
+            grant_moves s plays cs f may.asks may.lawful,
+            subst (λ (xs : List ℕ). AreFollowing plays t xs (slice_set actors f b)) (set-get_or cs f 0)
+                (following_set plays s.state t cs actors f n (slice_index_or cs f 0) b follows each known refl own),
+          ));
+    }
+
+-- a turn of a federate that may act
+pub turned : (s t : Stage) (f : ℕ) (actors rest : List Actor) → AreActors s.state actors → may_move s f ≡ true →
+    t ≡ record s { state = after (wires_at s) s.state (step_at s f (actor_at actors f)) } → rest ≡ slice_set actors f (actor_after s f (actor_at actors f)) → IsTurned s f actors t rest
+turned s t f actors rest ready may is left = elim (calls_or_asks s f may) [
+  | inl calling ↦
+      let a : Actor = actor_at actors f in
+      let step : step_at s f a ≡ calling_step s f a = ap (λ (b : Bool). if b then calling_step s f a else grant f) calling in
+      let actor : actor_after s f a ≡ passed (member_at s.state f).time.phase a =
+      ap (λ (c : Bool). if c then passed (member_at s.state f).time.phase a else (record a { view = taken_over a.view (entry_in s.state f) })) calling in
+      subst (λ (x : Stage). IsTurned s f actors x rest) (sym (is ∙ ap (λ (st : Step). record s { state = after (wires_at s) s.state st }) step))
+      (subst (λ (xs : List Actor). IsTurned s f actors (record s { state = after (wires_at s) s.state (calling_step s f a) }) xs) (sym (left ∙ ap (slice_set actors f) actor))
+      (called_turn s f actors ready calling))
+  | inr asks ↦
+      let a : Actor = actor_at actors f in
+      let not = asking_calls_not (member_at s.state f).time.phase asks.asks in
+      let b : Actor = record a { view = taken_over a.view (entry_in s.state f) } in
+      let step : step_at s f a ≡ grant f = ap (λ (c : Bool). if c then calling_step s f a else grant f) not in
+      let actor : actor_after s f a ≡ b = ap (λ (c : Bool). if c then passed (member_at s.state f).time.phase a else b) not in
+      subst (λ (x : Stage). IsTurned s f actors x rest) (sym (is ∙ ap (λ (st : Step). record s { state = after (wires_at s) s.state st }) step))
+      (subst (λ (xs : List Actor). IsTurned s f actors (record s { state = after (wires_at s) s.state (grant f) }) xs) (sym (left ∙ ap (slice_set actors f) actor))
+      (granted_turn s f actors ready asks (moving_known s f may)))
+]
+
 -- a move of the next to move, and then the rest
-pub first_move : (s t : Stage) (scripts : List (List Action)) (counts_now counts_then : List ℕ) (f : ℕ) (end : Play) → IsNextToMove s f →
-    move (wires_at s) (plays_of scripts) f (play_of s counts_now) ≡ Some (play_of t counts_then) → t.plan ≡ s.plan →
-    PlaysOut (wires_at t) scripts (play_of t counts_then) end → PlaysOut (wires_at s) scripts (play_of s counts_now) end
-first_move s t scripts cs ds f end next moves same rest =
-    let more : PlaysOut (wires_at s) scripts (play_of t ds) end = subst (λ (plan : Names). PlaysOut (wires_of plan.names) scripts (play_of t ds) end) same rest in
-    (f ∷ more.0, (play_of t ds, moves, (λ g less. stays s scripts cs g (next.least g less)), more.1))
+pub first_move : (s t : Stage) (plays : Scripts) (calls next : List ℕ) (f : ℕ) (end : Play) → IsNextToMove s f → move (wires_at s) plays f (play_of s calls) ≡ Some (play_of t next) →
+    t.plan ≡ s.plan → PlaysOut (wires_at t) plays (play_of t next) end → PlaysOut (wires_at s) plays (play_of s calls) end
+first_move s t plays cs ds f end next moves same rest =
+    let more : PlaysOut (wires_at s) plays (play_of t ds) end = subst (λ (plan : Federation). PlaysOut (wires_of plan) plays (play_of t ds) end) same rest in
+    (f ∷ more.0, (play_of t ds, moves, (λ g less. stays s plays cs g (next.least g less)), more.1))
 
 -- nobody moves any more
-pub no_move : (s : Stage) (scripts : List (List Action)) (counts_now : List ℕ) → ((f : ℕ) → may_move s f ≡ false) → PlaysOut (wires_at s) scripts (play_of s counts_now) (play_of s counts_now)
-no_move s scripts cs none = ([], (refl, λ f. stays s scripts cs f (none f)))
+pub no_move : (s : Stage) (plays : Scripts) (calls : List ℕ) → ((f : ℕ) → may_move s f ≡ false) → PlaysOut (wires_at s) plays (play_of s calls) (play_of s calls)
+no_move s plays cs none = ([], (refl, λ f. stays s plays cs f (none f)))

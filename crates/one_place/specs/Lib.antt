@@ -1,5 +1,6 @@
 pub mod Plan
-pub mod Script
+pub mod Targets
+pub mod Scene
 pub mod Step
 pub mod Machine
 pub mod Laws

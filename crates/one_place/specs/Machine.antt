@@ -1,24 +1,27 @@
 -- The machine: a plan and a state.
-use Rattle.std.specs.Prelude.{◌≡◌, ◌≢◌, Option, Some, None, Result, OnOk, OnErr, IfErr}
+use Rattle.std.specs.Prelude.{◌≡◌, ◌≢◌, length, Option, Some, None, Result, OnOk, OnErr, IfErr}
 use Rattle.machine_laws.specs.Machine.{State, refusal_of, after}
 use Rattle.machine_laws.specs.declared.refusal.Unlawful.{Unlawful}
 use Rattle.machine_laws.specs.declared.refusal.Unlawful.TheVariants.{OutOfMemory}
-use Rattle.one_place.specs.declared.plan.Plan.{Plan}
 use Rattle.one_place.specs.declared.step.MachineStep.{MachineStep}
-use Rattle.one_place.specs.Plan.{wires_of}
+use Rattle.one_place.specs.Plan.{Federation, wires_of}
 use Rattle.one_place.specs.Step.{step_of}
 
 pub record Stage : Type 0 where
-  pub plan : Plan
+  pub plan : Federation
   pub state : State
+
+-- a machine has the federates of its plan
+pub record IsStage (s : Stage) : Type 0 where
+  pub each : length s.state.members ≡ length s.plan.federates
 
 -- the first condition of a step that fails
 abbrev pub refusal_at : Stage → MachineStep → Option Unlawful
-refusal_at s step = refusal_of (wires_of s.plan.names) s.state (step_of step)
+refusal_at s step = refusal_of (wires_of s.plan) s.state (step_of step)
 
 -- the machine after a lawful step
 abbrev pub stage_after : Stage → MachineStep → Stage
-stage_after s step = record s { state = after (wires_of s.plan.names) s.state (step_of step) }
+stage_after s step = record s { state = after (wires_of s.plan) s.state (step_of step) }
 
 -- what a refused step tells: memory wants only for a lawful one
 abbrev pub TellsRefusal : Option Unlawful → Unlawful → Type 0

@@ -1,33 +1,81 @@
 -- The reference run of a scenario, and its logs.
-use Rattle.std.specs.Prelude.{ℕ, zero, suc, ◌≡◌, List, [], slice_index_or}
+use Rattle.std.specs.Prelude.{ℕ, zero, suc, ◌≡◌, List, [], ◌∷◌, length, replicate, slice_index_or}
+use Rattle.hel_values.specs.declared.EndRef.{EndRef}
+use Rattle.value_updates.specs.Input.{opening}
+use Rattle.fed_script.specs.declared.action.Action.{Action}
+use Rattle.fed_script.specs.declared.action.Action.TheVariants.{Publish, Send, Request, Finish, Fail}
+use Rattle.fed_script.specs.declared.word.Word.{Word}
+use Rattle.fed_script.specs.View.{Sight, granted}
+use Rattle.fed_script.specs.Script.{Course, next_action, words_after, view_after}
 use Rattle.machine_laws.specs.declared.logs.FedLog.{FedLog}
+use Rattle.machine_laws.specs.declared.logs.LogEntry.{LogEntry}
+use Rattle.machine_laws.specs.Plan.Call.{publish, send}
 use Rattle.machine_laws.specs.Machine.{logs_of}
 use Rattle.machine_laws.specs.Moves.{Doing, Scripts, Play, opening_play, IsReference}
-use Rattle.machine_laws.specs.Moves.Doing.{enters, requests, finishes}
-use Rattle.one_place.specs.declared.plan.Action.{Action}
-use Rattle.one_place.specs.declared.plan.Action.TheVariants.{Request, Finish}
-use Rattle.one_place.specs.Plan.{wires_of}
+use Rattle.machine_laws.specs.Moves.Doing.{enters, makes, requests, finishes, fails}
+use Rattle.one_place.specs.Plan.{Federation, inputs_of, wires_of}
 
+-- what a federate does by an action of its script
 abbrev pub doing_of : Action → Doing
+doing_of (Publish publication value) = makes (publish publication value)
+doing_of (Send endpoint destination payload) = makes (send endpoint destination payload)
 doing_of (Request time mode) = requests time mode
 doing_of Finish = finishes
+doing_of (Fail text) = fails text
 
-abbrev pub script_at : List (List Action) → ℕ → List Action
-script_at scripts f = slice_index_or scripts f []
+-- the names of endpoints: a plan has none yet
+abbrev pub no_names : EndRef → List ℕ
+no_names e = []
 
--- a federate's first call is to enter; then come its script's actions, and at its end it finishes
-abbrev pub call_at : List Action → ℕ → Doing
-call_at actions zero = enters
-call_at actions (suc k) = doing_of (slice_index_or actions k Finish)
+-- what a federate sees after a grant
+abbrev pub taken_over : Sight → LogEntry → Sight
+taken_over v e = granted no_names v e.grant.time e.items
 
-abbrev pub plays_of : List (List Action) → Scripts
-plays_of scripts f calls log = call_at (script_at scripts f) calls
+-- what a federate sees once it has read a part of its log, and the entries that it hasn't read
+pub record Reading : Type 0 where
+  pub view : Sight
+  pub rest : List LogEntry
+
+-- it reads the next entry
+abbrev pub read_on : Sight → List LogEntry → Reading
+read_on v [] = record { view = v; rest = [] }
+read_on v (e ∷ log) = record { view = taken_over v e; rest = log }
+
+-- a request is answered by a grant, which is the next entry; no other action is
+abbrev pub after_action : Action → Sight → List LogEntry → Reading
+after_action (Request time mode) v log = read_on v log
+after_action action v log = record { view = v; rest = log }
+
+-- what a federate that runs does once it has taken so many actions of these words
+abbrev pub acts : List Word → Sight → List LogEntry → ℕ → Doing
+acts words v log zero = doing_of (next_action words v)
+acts words v log (suc k) =
+    let reading = after_action (next_action words v) (view_after words v) log in
+    acts (words_after words v) reading.view reading.rest k
+
+-- what a federate does after so many calls: its initial actions come first, then it enters, and after its entry come its words
+abbrev pub call_of : List Action → List Word → Sight → List LogEntry → ℕ → Doing
+call_of (action ∷ initial) words v log zero = doing_of action
+call_of (action ∷ initial) words v log (suc k) = call_of initial words v log k
+call_of [] words v log zero = enters
+call_of [] words v log (suc k) = let reading = read_on v log in acts words reading.view reading.rest k
+
+-- what a federate sees before its first grant
+abbrev pub first_sight : List EndRef → Sight
+first_sight inputs = record { time = 0; inputs = replicate (length inputs) opening; inboxes = [] }
+
+abbrev pub course_at : List Course → ℕ → Course
+course_at scripts f = slice_index_or scripts f (record { initial = []; words = [] })
+
+-- each federate makes the calls of its script over what its grants show
+abbrev pub plays_of : Federation → List Course → Scripts
+plays_of plan scripts f calls log = call_of (course_at scripts f).initial (course_at scripts f).words (first_sight (inputs_of plan.federates f)) log calls
 
 -- the logs of the reference run of these scripts: the machine begins, and then the least federate that may move moves,
 -- until none may
-pub record HasReferenceLogs (names : List (List ℕ)) (scripts : List (List Action)) (logs : List FedLog) : Type 0 where
+pub record HasReferenceLogs (plan : Federation) (scripts : List Course) (logs : List FedLog) : Type 0 where
   -- the federates that move, in order
   pub feds : List ℕ
   pub end : Play
-  pub run : IsReference (wires_of names) (plays_of scripts) (opening_play (wires_of names)) feds end
+  pub run : IsReference (wires_of plan) (plays_of plan scripts) (opening_play (wires_of plan)) feds end
   pub logs_are : logs ≡ logs_of end.state

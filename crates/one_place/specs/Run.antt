@@ -1,23 +1,32 @@
--- The reference run as the code makes it: a machine, and how many calls each federate has made.
-use Rattle.std.specs.Prelude.{ℕ, ◌+◌, ◌<◌, ◌≤◌, ◌≡◌, Bool, true, false, is_none, List, [], ◌∷◌, length}
-use Rattle.time_state.specs.Fed.{is_live}
+-- The reference run as the code makes it: a machine, and for each federate what is left of its script and what it sees.
+use Rattle.std.specs.Prelude.{ℕ, zero, ◌+◌, ◌<◌, ◌≡◌, Bool, true, false, is_none, List, [], ◌∷◌, ◌++◌, length, drop, slice_index_or, if◌then◌else◌}
+use Rattle.hel_lists.specs.Members.{Each}
+use Rattle.time_state.specs.Fed.{is_live, grant_of}
 use Rattle.time_state.specs.declared.Phase.{Phase}
 use Rattle.time_state.specs.declared.Phase.TheVariants.{Initializing, Entering, Running, Waiting}
+use Rattle.fed_script.specs.Script.{Course, IsCourse, words_after, view_after}
+use Rattle.machine_laws.specs.declared.logs.LogEntry.{LogEntry}
 use Rattle.machine_laws.specs.Plan.{Plan}
-use Rattle.machine_laws.specs.Machine.{Member, Step, member_at, refusal_of}
+use Rattle.machine_laws.specs.Machine.{Member, State, Step, member_at, dues_to, handed_in, refusal_of}
 use Rattle.machine_laws.specs.Machine.Step.{grant}
-use Rattle.machine_laws.specs.Moves.{Play, call_by, IsReference, opening_play}
-use Rattle.one_place.specs.declared.plan.Action.{Action}
-use Rattle.one_place.specs.declared.plan.Plan.{Plan as Names}
-use Rattle.one_place.specs.Plan.{wires_of}
+use Rattle.machine_laws.specs.Moves.{Doing, Scripts, Play, call_by, IsReference, opening_play}
+use Rattle.one_place.specs.declared.actor.Actor.{Actor}
+use Rattle.one_place.specs.declared.plan.Federate.{Federate}
+use Rattle.one_place.specs.Plan.{Federation, wires_of}
 use Rattle.one_place.specs.Machine.{Stage}
-use Rattle.one_place.specs.Reference.{call_at, plays_of}
+use Rattle.one_place.specs.Reference.{acts, call_of, read_on, taken_over, first_sight}
 
 abbrev pub wires_at : Stage → Plan
-wires_at s = wires_of s.plan.names
+wires_at s = wires_of s.plan
 
 abbrev pub play_of : Stage → List ℕ → Play
 play_of s calls = record { state = s.state; calls = calls }
+
+-- it calls
+abbrev pub is_calling : Phase → Bool
+is_calling Initializing = true
+is_calling Running = true
+is_calling phase = false
 
 -- a federate may act: by a call, or by the grant that it waits for
 abbrev pub may_move : Stage → ℕ → Bool
@@ -33,31 +42,71 @@ may_move s f = in_phase (member_at s.state f).time.phase
     in_phase Waiting = grants
     in_phase phase = false
 
--- it calls
-abbrev pub is_calling : Phase → Bool
-is_calling Initializing = true
-is_calling Running = true
-is_calling phase = false
-
 -- it may act, and no lesser federate may
 pub record IsNextToMove (s : Stage) (f : ℕ) : Type 0 where
   pub moves : may_move s f ≡ true
   pub least : (g : ℕ) → g < f → may_move s g ≡ false
 
--- the step by which a federate makes the next call of its script
-abbrev pub calling_step : Stage → ℕ → List Action → ℕ → Step
-calling_step s f actions calls = call_by (wires_at s) f (member_at s.state f) (call_at actions calls)
+-- what a federate in this phase does after so many more calls, over what it will be granted
+abbrev pub going : Phase → Actor → List LogEntry → ℕ → Doing
+going Running a more k = acts a.script.words a.view more k
+going Entering a more k = let reading = read_on a.view more in acts a.script.words reading.view reading.rest k
+going Waiting a more k = let reading = read_on a.view more in acts a.script.words reading.view reading.rest k
+going phase a more k = call_of a.script.initial a.script.words a.view more k
+
+-- what is left once the next call has passed
+abbrev pub passed : Phase → Actor → Actor
+passed Running a = record a { script = record a.script { words = words_after a.script.words a.view }; view = view_after a.script.words a.view }
+passed phase a = record a { script = record a.script { initial = drop 1 a.script.initial } }
+
+-- the step by which a federate makes its next call
+abbrev pub calling_step : Stage → ℕ → Actor → Step
+calling_step s f a = call_by (wires_at s) f (member_at s.state f) (going (member_at s.state f).time.phase a [] zero)
+
+-- what a grant writes into a federate's log
+abbrev pub entry_in : State → ℕ → LogEntry
+entry_in s f = record { grant = grant_of (member_at s f).time (dues_to s.items f); items = handed_in s f }
+
+-- the step that a federate takes where it may act, and what is left then
+abbrev pub step_at : Stage → ℕ → Actor → Step
+step_at s f a = if is_calling (member_at s.state f).time.phase then calling_step s f a else grant f
+
+abbrev pub actor_after : Stage → ℕ → Actor → Actor
+actor_after s f a =
+    if is_calling (member_at s.state f).time.phase then passed (member_at s.state f).time.phase a
+    else record a { view = taken_over a.view (entry_in s.state f) }
+
+-- what every actor keeps
+pub record IsActor (a : Actor) : Type 0 where
+  pub rules : IsCourse a.script
+  -- there is no endpoint
+  pub letters : a.view.inboxes ≡ []
+
+pub record AreActors (s : State) (actors : List Actor) : Type 0 where
+  pub each : length actors ≡ length s.members
+  pub all : Each IsActor actors
+
+-- where a federate has made so many calls, what is left of its script is what it does from here on
+abbrev pub Goes : Scripts → ℕ → Member → ℕ → Actor → Type 0
+Goes plays f m calls a = is_live m.time.phase ≡ true → (more : List LogEntry) (k : ℕ) → plays f (calls + k) (m.log ++ more) ≡ going m.time.phase a more k
+
+abbrev pub actor_at : List Actor → ℕ → Actor
+actor_at actors f = slice_index_or actors f (record { script = record { initial = []; words = [] }; view = first_sight [] })
+
+pub record AreFollowing (plays : Scripts) (s : State) (calls : List ℕ) (actors : List Actor) : Type 0 where
+  pub counts : length calls ≡ length s.members
+  pub go : (f : ℕ) → f < length s.members → Goes plays f (member_at s f) (slice_index_or calls f 0) (actor_at actors f)
+
+-- at the beginning each federate has its whole script before it
+abbrev pub first_actors : List Federate → List Course → List Actor
+first_actors [] scripts = []
+first_actors (fed ∷ feds) [] = []
+first_actors (fed ∷ feds) (script ∷ scripts) = (record { script = script; view = first_sight fed.inputs }) ∷ first_actors feds scripts
 
 -- from here the reference run ends so
-abbrev pub PlaysOut : Plan → List (List Action) → Play → Play → Type 0
-PlaysOut p scripts w end = (feds : List ℕ) × IsReference p (plays_of scripts) w feds end
-
--- one script and one count of calls for each member; one that lives still has its last call to make
-abbrev pub AreInScripts : List Member → List ℕ → List (List Action) → Type 0
-AreInScripts [] [] [] = Unit {0}
-AreInScripts (m ∷ ms) (c ∷ cs) (a ∷ more) = (is_live m.time.phase ≡ true → c ≤ length a + 1) × AreInScripts ms cs more
-AreInScripts ms cs scripts = ⊥
+abbrev pub PlaysOut : Plan → Scripts → Play → Play → Type 0
+PlaysOut p plays w end = (feds : List ℕ) × IsReference p plays w feds end
 
 -- the machine of a plan once it has begun
-abbrev pub begun_stage : Names → Stage
-begun_stage plan = record { plan = plan; state = (opening_play (wires_of plan.names)).state }
+abbrev pub begun_stage : Federation → Stage
+begun_stage plan = record { plan = plan; state = (opening_play (wires_of plan)).state }

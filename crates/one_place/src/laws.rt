@@ -1,9 +1,9 @@
 // Laws of plans and of the machine's steps.
-ghost use Rattle.one_place.specs.Laws.{NamesPlan, StepsRun, ReferenceRuns};
+ghost use Rattle.one_place.specs.Laws.{PlansAre, StepsRun, ReferenceRuns};
 
-/// Whatever the names, a plan has all that the laws of runs need: docs/RULES.md, Grants.
+/// A plan has all that the laws of runs need: docs/RULES.md, Grants.
 pub fn plan_laws()
-    ensures { NamesPlan }
+    ensures { PlansAre }
 {}
 
 /// The steps that a machine accepts from its opening on are a run of its plan. So each law of the crate

@@ -1,17 +1,21 @@
-ghost use Rattle.std.specs.Prelude.{◌≡◌, ◌≤◌, Some, None, length, option_map, OnOk, OnErr, IfOk};
+ghost use Rattle.std.specs.Prelude.{◌≡◌, ◌≤◌, ◌<◌, Some, None, length, option_map, OnOk, OnErr, IfOk};
 ghost use Rattle.helics_time.specs.Time.{max_time};
+ghost use Rattle.helics_time.specs.Stamp.{before, next_of};
 ghost use Rattle.time_state.specs.Fed.{request_refusal};
 ghost use Rattle.machine_laws.specs.declared.refusal.CallRefusal.TheVariants.{NotOwner};
 ghost use Rattle.machine_laws.specs.Refusal.{refusal_by_time};
-ghost use Rattle.machine_laws.specs.Machine.{KeepsTime, member_at, opening, logs_of, by_phase, end_refusal, if_refused};
+ghost use Rattle.machine_laws.specs.Machine.{KeepsTime, member_at, event_in, cut_in, opening, logs_of, holder_in, limit_refusal, by_phase, end_refusal, if_refused};
+ghost use Rattle.std.specs.Option.{option_or};
+ghost use Rattle.dependency_paths.specs.Paths.{row_of};
 ghost use Rattle.one_place.specs.Plan.{wires_of};
 ghost use Rattle.one_place.specs.Step.{step_of};
 ghost use Rattle.one_place.specs.Machine.{refusal_at, stage_after, Steps};
 
 use crate::members::Members;
-use crate::{Logs, MachineStep, Plan, Unlawful, refusal};
+use crate::{CallRefusal, LogEntry, Logs, MachineStep, Plan, Unlawful, refusal};
 use hel_lists::OutOfMemory;
-use hel_values::TextValue;
+use hel_values::{EndRef, TextValue, Value};
+use helics_time::Stamp;
 use iteration_rules::Mode;
 use std::alloc::Global;
 use std::marker::Model;
@@ -23,33 +27,36 @@ use time_state::{Cause, Phase};
 pub struct Machine {
     alloc: Global,
     plan: Plan,
-    begun: bool,
     members: Members,
 }
 
 impl Model for Machine {
-    ghost use Rattle.std.specs.Prelude.{[]};
-    ghost use Rattle.one_place.specs.Machine.{Stage};
+    ghost use Rattle.one_place.specs.Machine.{Stage, IsStage};
 
     ghost Value = { Stage };
 
-    ghost view = { λ m. record {
-      plan = m.plan;
-      state = record { begun = m.begun; members = m.members; items = [] };
-    } };
+    ghost view = { λ m. record { plan = m.plan; state = m.members } };
+
+    ghost invariant = { λ m. IsStage (record { plan = m.plan; state = m.members }) };
+}
+
+// Whether what a federate sends to another from this event on is due past the cut.
+fn sends_past(cut: &Stamp, event: Stamp) -> bool
+    ensures { result ≡ before cut.now (next_of event) }
+{
+    *cut < event.next()
 }
 
 impl Machine {
     /// The machine before the beginning: every federate is Created.
     #[tactic(auto, using(crate::proofs::Opening::new_members))]
     pub fn open(alloc: Global, plan: Plan) -> Result<Machine, OutOfMemory>
-        ensures { IfOk result (λ machine. machine ≡ record { plan = plan; state = opening (wires_of plan.names) }) }
+        ensures { IfOk result (λ machine. machine ≡ record { plan = plan; state = opening (wires_of plan) }) }
     {
-        let members = Members::new(alloc, plan.names.len())?;
+        let members = Members::new(alloc, plan.count())?;
         Ok(Machine {
             alloc,
             plan,
-            begun: false,
             members,
         })
     }
@@ -68,7 +75,6 @@ impl Machine {
         let Machine {
             alloc: _,
             plan: _,
-            begun: _,
             members,
         } = self;
         members.into_logs()
@@ -91,6 +97,14 @@ impl Machine {
         }
     }
 
+    /// What a federate was granted so far.
+    pub(crate) fn entries(&self, f: u16) -> &[LogEntry]
+        requires { f < length self.now.state.members }
+        ensures { result.now ≡ (member_at self.now.state f).log }
+    {
+        self.members.entries(usize::from(f))
+    }
+
     /// Makes a step where it is lawful, and else names the first condition that fails, in the order of
     /// `Unlawful`. A refused step changes nothing, and memory is wanted for a lawful step alone.
     pub fn step(&mut self, step: MachineStep) -> Result<(), Unlawful>
@@ -111,8 +125,12 @@ impl Machine {
         match step {
             MachineStep::Begin => self.begin_refusal(),
             MachineStep::Enter(f) => self.enter_refusal(*f),
-            MachineStep::Publish { fed, .. } => self.make_refusal(*fed),
-            MachineStep::Send { fed, .. } => self.make_refusal(*fed),
+            MachineStep::Publish {
+                fed,
+                publication,
+                value,
+            } => self.publish_refusal(*fed, *publication, value),
+            MachineStep::Send { fed, .. } => self.send_refusal(*fed),
             MachineStep::Request { fed, .. } => self.request_refusal(*fed),
             MachineStep::Grant(f) => self.grant_refusal(*f),
             MachineStep::Finish(f) => self.finish_refusal(*f),
@@ -132,7 +150,11 @@ impl Machine {
         match step {
             MachineStep::Begin => self.begin(),
             MachineStep::Enter(f) => self.enter(f),
-            MachineStep::Publish { .. } => unreachable!(),
+            MachineStep::Publish {
+                fed,
+                publication,
+                value,
+            } => self.publish(fed, publication, &value)?,
             MachineStep::Send { .. } => unreachable!(),
             MachineStep::Request { fed, time, mode } => self.request(fed, time, mode),
             MachineStep::Grant(f) => self.grant(f)?,
@@ -150,7 +172,7 @@ impl Machine {
     fn begin_refusal(&self) -> Option<Unlawful>
         ensures { result ≡ refusal_at self.now MachineStep.Begin }
     {
-        if self.begun {
+        if self.members.begun() {
             Some(Unlawful::BegunTwice)
         } else {
             None
@@ -161,7 +183,6 @@ impl Machine {
         ensures { self.new ≡ stage_after self.old MachineStep.Begin }
     {
         self.members.begin();
-        self.begun = true;
     }
 
     fn enter_refusal(&self, f: u16) -> Option<Unlawful>
@@ -180,11 +201,43 @@ impl Machine {
         self.members.enter(usize::from(f));
     }
 
-    fn make_refusal(&self, f: u16) -> Option<Unlawful>
-        ensures { result ≡ if_refused self.now.state f (by_phase (member_at self.now.state f).time.phase (Some NotOwner)) }
+    fn publish_refusal(&self, f: u16, publication: u16, value: &Value) -> Option<Unlawful>
+        ensures { result ≡ refusal_at self.now (MachineStep.Publish f publication value.now) }
     {
         match self.members.time(f) {
-            Some(time) => refusal::make_refusal(time).map(Unlawful::Refused),
+            Some(time) => {
+                let index = publication;
+                let objection = self.plan.objection(EndRef { fed: f, index }, value);
+                refusal::make_refusal(time, objection, self.members.seq(f)).map(Unlawful::Refused)
+            }
+            None => Some(Unlawful::StrangeNumber),
+        }
+    }
+
+    // Without memory for all its items a publish changes nothing.
+    fn publish(&mut self, f: u16, publication: u16, value: &Value) -> Result<(), OutOfMemory>
+        requires { refusal_at self.old (MachineStep.Publish f publication value.now) ≡ None }
+        ensures ok { OnOk result (self.new ≡ stage_after self.old (MachineStep.Publish f publication value.now)) }
+        ensures err { OnErr result (self.new ≡ self.old) }
+    {
+        let publication = EndRef {
+            fed: f,
+            index: publication,
+        };
+        let targets = self.plan.targets(publication);
+        self.members
+            .publish(self.alloc, publication, value, targets)
+    }
+
+    // No federate has an endpoint yet.
+    fn send_refusal(&self, f: u16) -> Option<Unlawful>
+        ensures { result ≡ if_refused self.now.state f (by_phase (member_at self.now.state f).time.phase (option_or (Some NotOwner) (limit_refusal (member_at self.now.state f)))) }
+    {
+        match self.members.time(f) {
+            Some(time) => {
+                let objection = Some(CallRefusal::NotOwner);
+                refusal::make_refusal(time, objection, self.members.seq(f)).map(Unlawful::Refused)
+            }
             None => Some(Unlawful::StrangeNumber),
         }
     }
@@ -210,9 +263,30 @@ impl Machine {
         ensures { result ≡ refusal_at self.now (MachineStep.Grant f) }
     {
         match self.members.time(f) {
-            Some(time) => refusal::grant_refusal(time),
+            Some(time) => match time.phase() {
+                Phase::Entering | Phase::Waiting => self.holder(f),
+                _ => Some(Unlawful::NotAsked),
+            },
             None => Some(Unlawful::StrangeNumber),
         }
+    }
+
+    // The least ancestor that could still send what is due by a federate's cut.
+    fn holder(&self, f: u16) -> Option<Unlawful>
+        requires { f < length self.now.state.members }
+        ensures { result ≡ holder_in (wires_of self.now.plan) self.now.state (cut_in self.now.state f) (row_of self.now.plan.ancestors f) }
+    {
+        let cut = self.members.cut(f);
+        for ancestor in self.plan.ancestors(f) {
+            let stamp = self.members.event(*ancestor);
+            if !sends_past(&cut, stamp) {
+                return Some(Unlawful::Early {
+                    holder: *ancestor,
+                    stamp,
+                });
+            }
+        }
+        None
     }
 
     fn grant(&mut self, f: u16) -> Result<(), OutOfMemory>
@@ -220,7 +294,7 @@ impl Machine {
         ensures ok { OnOk result (self.new ≡ stage_after self.old (MachineStep.Grant f)) }
         ensures err { OnErr result (self.new ≡ self.old) }
     {
-        self.members.grant(self.alloc, usize::from(f))
+        self.members.grant(usize::from(f))
     }
 
     fn finish_refusal(&self, f: u16) -> Option<Unlawful>

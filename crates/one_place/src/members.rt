@@ -1,41 +1,47 @@
 // All federates of the machine.
-ghost use Rattle.std.specs.Prelude.{◌≡◌, ◌≢◌, ◌≤◌, ◌<◌, ℕ, [], None, OnOk, OnErr, IfOk, IfSome, IfNone, true, length, slice_set, slice_index_or, map, replicate};
+ghost use Rattle.std.specs.Prelude.{◌≡◌, ◌≢◌, ◌≤◌, ◌<◌, ◌^◌, ℕ, [], None, OnOk, OnErr, IfOk, IfSome, IfNone, true, false, length, slice_index_or, map, replicate};
 ghost use Rattle.std.specs.Borrow.{sem};
 ghost use Rattle.hel_lists.specs.Lends.{lends_item};
+ghost use Rattle.hel_lists.specs.Members.{Each};
 ghost use Rattle.helics_time.specs.Time.{max_time};
+ghost use Rattle.due_queue.specs.Order.{insert_all};
 ghost use Rattle.time_state.specs.Fed.{enter_refusal, request_refusal, is_asking, is_live};
 ghost use Rattle.machine_laws.specs.contracts.logs.FedLog.{the_row as log_row};
-ghost use Rattle.machine_laws.specs.Machine.{default_terms, blank_member, begun_member, entered_member, requested_member, granted_member, ended_member, failed_member, log_of};
-ghost use Rattle.one_place.specs.Members.{joined, AreSeats, blank_clock, blank_log, log_at, halted_member};
+ghost use Rattle.machine_laws.specs.Plan.{item_of};
+ghost use Rattle.machine_laws.specs.Machine.{default_terms, blank_member, member_at, event_in, cut_in, dues_to, handed_in, left_in, with_member, begun_member, entered_member, called_member, requested_member, granted_member, ended_member, failed_member, limit_refusal, log_of};
+ghost use Rattle.one_place.specs.Plan.{leg_to};
+ghost use Rattle.one_place.specs.Members.{IsClockOf, blank_clock, blank_log, log_at, halted_member};
 
+use crate::queues;
 use crate::seat::{self, Clock};
 use hel_lists::{Items, OutOfMemory};
-use hel_values::TextValue;
-use helics_time::Settings;
+use hel_values::{EndRef, TextValue, Value};
+use helics_time::{Settings, Stamp};
 use iteration_rules::Mode;
-use machine_laws::{FedLog, LogEnd, Logs};
+use machine_laws::{FedLog, LogEnd, LogEntry, Logs};
 use std::alloc::Global;
 use std::marker::Model;
 use time_state::{Cause, FedTime, Phase};
 
-/// The federates in order of their numbers. What changes often stands apart from the logs.
+/// The federates in order of their numbers, with the items under way to each. What changes often
+/// stands apart from the logs.
 #[derive(Debug, Drop)]
 pub struct Members {
+    begun: bool,
     clocks: Vec<Clock>,
     logs: Logs,
 }
 
 impl Model for Members {
-    ghost use Rattle.std.specs.Prelude.{List};
-    ghost use Rattle.machine_laws.specs.Machine.{Member};
+    ghost use Rattle.machine_laws.specs.Machine.{State};
 
-    ghost Value = { List Member };
+    ghost Value = { State };
 
-    ghost use Rattle.one_place.specs.Members.{joined, AreSeats};
+    ghost use Rattle.one_place.specs.Members.{state_of, AreKept};
 
-    ghost view = { λ m. joined m.clocks.items m.logs.feds };
+    ghost view = { λ m. state_of m.begun m.clocks.items m.logs.feds };
 
-    ghost invariant = { λ m. AreSeats m.clocks.items m.logs.feds };
+    ghost invariant = { λ m. AreKept m.clocks.items m.logs.feds };
 }
 
 // The settings of a federate whose file names none.
@@ -59,10 +65,7 @@ fn new_clocks(alloc: Global, count: usize) -> Result<Vec<Clock>, OutOfMemory>
 {
     let mut clocks = Vec::new(alloc);
     for _ in 0..count {
-        clocks.push(Clock {
-            time: FedTime::new(default_settings()),
-            seq: 0,
-        })?;
+        clocks.push(Clock::new(alloc, default_settings()))?;
     }
     Ok(clocks)
 }
@@ -93,49 +96,110 @@ fn log_mut(logs: &mut Items<FedLog>, at: usize) -> &mut FedLog
 impl Members {
     /// Federates that are Created, with the default settings.
     pub fn new(alloc: Global, count: usize) -> Result<Members, OutOfMemory>
-        ensures { IfOk result (λ members. members ≡ replicate count blank_member) }
+        ensures { IfOk result (λ members. members ≡ record { begun = false; members = replicate count blank_member; items = [] }) }
     {
         let clocks = new_clocks(alloc, count)?;
         let feds = new_logs(alloc, count)?;
         Ok(Members {
+            begun: false,
             clocks,
             logs: Logs { feds },
         })
     }
 
+    /// Whether the machine has begun.
+    pub fn begun(&self) -> bool
+        ensures { result ≡ self.now.begun }
+    {
+        self.begun
+    }
+
     pub fn len(&self) -> usize
-        ensures { result ≡ length self.now }
+        ensures { result ≡ length self.now.members }
     {
         self.clocks.len()
     }
 
+    // The clock of a federate, and none where there is none of that number.
+    fn clock(&self, f: u16) -> Option<&Clock>
+        ensures known { IfSome result (λ clock. IsClockOf self.now f clock.now) }
+        ensures strange { IfNone result (length self.now.members ≤ f) }
+    {
+        self.clocks.get(usize::from(f))
+    }
+
     /// The time of a federate, and none where there is none of that number.
     pub fn time(&self, f: u16) -> Option<&FedTime>
-        ensures known { IfSome result (λ time. (f < length self.now) × (time.now ≡ (slice_index_or self.now f blank_member).time)) }
-        ensures strange { IfNone result (length self.now ≤ f) }
+        ensures known { IfSome result (λ time. (f < length self.now.members) × (time.now ≡ (member_at self.now f).time)) }
+        ensures strange { IfNone result (length self.now.members ≤ f) }
     {
-        match self.clocks.get(usize::from(f)) {
+        match self.clock(f) {
             Some(clock) => Some(&clock.time),
             None => None,
         }
     }
 
+    /// The next sequence number of a federate.
+    #[tactic(auto, using(crate::proofs::Seats::strange_seq))]
+    pub fn seq(&self, f: u16) -> u64
+        ensures { result ≡ (member_at self.now f).seq }
+    {
+        match self.clock(f) {
+            Some(clock) => clock.seq,
+            None => 0,
+        }
+    }
+
+    /// The stamp at which a federate acts next.
+    #[tactic(auto, using(crate::proofs::Seats::strange_event))]
+    pub fn event(&self, f: u16) -> Stamp
+        ensures { result ≡ event_in self.now f }
+    {
+        match self.clock(f) {
+            Some(clock) => clock.event,
+            None => Stamp { time: 0, micro: 0 },
+        }
+    }
+
+    /// What is due by it is handed over at a federate's next grant.
+    #[tactic(auto, using(crate::proofs::Seats::strange_cut))]
+    pub fn cut(&self, f: u16) -> Stamp
+        ensures { result ≡ cut_in self.now f }
+    {
+        match self.clock(f) {
+            Some(clock) => clock.time.cut_at(clock.event),
+            None => Stamp { time: 0, micro: 0 },
+        }
+    }
+
     pub fn logs(&self) -> &Logs
-        ensures { result.now.feds ≡ map log_of self.now }
+        ensures { result.now.feds ≡ map log_of self.now.members }
     {
         &self.logs
     }
 
-    pub fn into_logs(self) -> Logs
-        ensures { result.feds ≡ map log_of self }
+    /// What a federate was granted so far.
+    pub fn entries(&self, at: usize) -> &[LogEntry]
+        requires { at < length self.now.members }
+        ensures { result.now ≡ (member_at self.now at).log }
     {
-        let Members { clocks: _, logs } = self;
+        self.logs.feds.at(at).entries.as_slice()
+    }
+
+    pub fn into_logs(self) -> Logs
+        ensures { result.feds ≡ map log_of self.members }
+    {
+        let Members {
+            begun: _,
+            clocks: _,
+            logs,
+        } = self;
         logs
     }
 
     fn begin_at(&mut self, at: usize)
-        requires { at < length self.old }
-        ensures { self.new ≡ slice_set self.old at (begun_member (slice_index_or self.old at blank_member)) }
+        requires { at < length self.old.members }
+        ensures { self.new ≡ with_member self.old at (begun_member (member_at self.old at)) self.old.items }
     {
         let clock = &mut self.clocks[at];
         let log = log_mut(&mut self.logs.feds, at);
@@ -144,51 +208,73 @@ impl Members {
 
     /// Each federate that is Created becomes Initializing.
     pub fn begin(&mut self)
-        ensures { self.new ≡ map begun_member self.old }
+        ensures { self.new ≡ record self.old { begun = true; members = map begun_member self.old.members } }
     {
         for at in 0..self.len() {
             self.begin_at(at);
         }
+        self.begun = true;
     }
 
     pub fn enter(&mut self, at: usize)
-        requires within { at < length self.old }
-        requires may { enter_refusal (slice_index_or self.old at blank_member).time ≡ None }
-        ensures { self.new ≡ slice_set self.old at (entered_member (slice_index_or self.old at blank_member)) }
+        requires within { at < length self.old.members }
+        requires may { enter_refusal (member_at self.old at).time ≡ None }
+        ensures { self.new ≡ with_member self.old at (entered_member (member_at self.old at)) self.old.items }
     {
         let clock = &mut self.clocks[at];
         let log = log_mut(&mut self.logs.feds, at);
         seat::enter(clock, log);
     }
 
+    /// A federate publishes: each target is sent an item. Without memory nothing changes.
+    pub fn publish(
+        &mut self,
+        alloc: Global,
+        publication: EndRef,
+        value: &Value,
+        targets: &[EndRef],
+    ) -> Result<(), OutOfMemory>
+        requires within { publication.fed < length self.old.members }
+        requires limits { limit_refusal (member_at self.old publication.fed) ≡ None }
+        requires known { Each (λ e. e.fed < length self.old.members) targets.now }
+        ensures ok { OnOk result (
+            let m = member_at self.old publication.fed in
+            let items = map (item_of m.time publication.fed m.seq) (map (leg_to publication value.now) targets.now) in
+            self.new ≡ with_member self.old publication.fed (called_member m) (insert_all items self.old.items)) }
+        ensures err { OnErr result (self.new ≡ self.old) }
+    {
+        queues::publish(&mut self.clocks, alloc, publication, value, targets)
+    }
+
     pub fn request(&mut self, at: usize, time: u64, mode: Mode)
-        requires within { at < length self.old }
-        requires may { request_refusal (slice_index_or self.old at blank_member).time ≡ None }
+        requires within { at < length self.old.members }
+        requires may { request_refusal (member_at self.old at).time ≡ None }
         requires fits { time ≤ max_time }
-        ensures { self.new ≡ slice_set self.old at (requested_member (slice_index_or self.old at blank_member) time mode) }
+        ensures { self.new ≡ with_member self.old at (requested_member (member_at self.old at) time mode) self.old.items }
     {
         let clock = &mut self.clocks[at];
         let log = log_mut(&mut self.logs.feds, at);
         seat::request(clock, log, time, mode);
     }
 
-    pub fn grant(&mut self, alloc: Global, at: usize) -> Result<(), OutOfMemory>
-        requires within { at < length self.old }
-        requires asks { is_asking (slice_index_or self.old at blank_member).time.phase ≡ true }
-        ensures ok { OnOk result (self.new ≡ slice_set self.old at (granted_member (slice_index_or self.old at blank_member) [] [])) }
+    /// A federate gets its next stamp and what is due by the cut. Without memory nothing changes.
+    pub fn grant(&mut self, at: usize) -> Result<(), OutOfMemory>
+        requires within { at < length self.old.members }
+        requires asks { is_asking (member_at self.old at).time.phase ≡ true }
+        ensures ok { OnOk result (self.new ≡ with_member self.old at (granted_member (member_at self.old at) (dues_to self.old.items at) (handed_in self.old at)) (left_in self.old at)) }
         ensures err { OnErr result (self.new ≡ self.old) }
     {
         let clock = &mut self.clocks[at];
         let log = log_mut(&mut self.logs.feds, at);
-        seat::grant(alloc, clock, log)
+        seat::grant(clock, log)
     }
 
     /// A federate ends otherwise than by failing.
     pub fn end(&mut self, at: usize, cause: Cause)
-        requires within { at < length self.old }
-        requires live { is_live (slice_index_or self.old at blank_member).time.phase ≡ true }
+        requires within { at < length self.old.members }
+        requires live { is_live (member_at self.old at).time.phase ≡ true }
         requires otherwise { cause ≢ Cause.Failed }
-        ensures { self.new ≡ slice_set self.old at (ended_member (slice_index_or self.old at blank_member) cause) }
+        ensures { self.new ≡ with_member self.old at (ended_member (member_at self.old at) cause) self.old.items }
     {
         let clock = &mut self.clocks[at];
         let log = log_mut(&mut self.logs.feds, at);
@@ -196,9 +282,9 @@ impl Members {
     }
 
     pub fn fail(&mut self, at: usize, text: TextValue)
-        requires within { at < length self.old }
-        requires live { is_live (slice_index_or self.old at blank_member).time.phase ≡ true }
-        ensures { self.new ≡ slice_set self.old at (failed_member (slice_index_or self.old at blank_member) text) }
+        requires within { at < length self.old.members }
+        requires live { is_live (member_at self.old at).time.phase ≡ true }
+        ensures { self.new ≡ with_member self.old at (failed_member (member_at self.old at) text) self.old.items }
     {
         let clock = &mut self.clocks[at];
         let log = log_mut(&mut self.logs.feds, at);
@@ -206,8 +292,8 @@ impl Members {
     }
 
     fn halt_at(&mut self, at: usize, fed: u16)
-        requires { at < length self.old }
-        ensures { self.new ≡ slice_set self.old at (halted_member fed (slice_index_or self.old at blank_member)) }
+        requires { at < length self.old.members }
+        ensures { self.new ≡ with_member self.old at (halted_member fed (member_at self.old at)) self.old.items }
     {
         let clock = &mut self.clocks[at];
         let log = log_mut(&mut self.logs.feds, at);
@@ -216,7 +302,7 @@ impl Members {
 
     /// Each federate that lives is halted by `fed`.
     pub fn halt(&mut self, fed: u16)
-        ensures { self.new ≡ map (halted_member fed) self.old }
+        ensures { self.new ≡ record self.old { members = map (halted_member fed) self.old.members } }
     {
         for at in 0..self.len() {
             self.halt_at(at, fed);

@@ -1,15 +1,19 @@
 // The reference run.
-ghost use Rattle.std.specs.Prelude.{◌≡◌, ◌≤◌, ◌<◌, ◌+◌, ◌^◌, ℕ, Some, None, true, false, length, slice_set, slice_index_or, replicate, IfOk, IfSome, IfNone, OnOk};
+ghost use Rattle.std.specs.Prelude.{List, ◌≡◌, ◌≤◌, ◌<◌, ◌^◌, ℕ, [], zero, true, false, length, slice_set, None, IfOk, IfSome, IfNone, OnOk};
+ghost use Rattle.hel_lists.specs.Members.{Each};
+ghost use Rattle.fed_script.specs.Script.{IsCourse};
 ghost use Rattle.machine_laws.specs.Refusal.{refusal_word};
-ghost use Rattle.machine_laws.specs.Machine.{KeepsTime, member_at, after};
-ghost use Rattle.machine_laws.specs.Machine.Step.{fail};
-ghost use Rattle.machine_laws.specs.Moves.{step_by, move};
-ghost use Rattle.one_place.specs.Script.{KeepsTimes, federate_limit};
+ghost use Rattle.machine_laws.specs.Machine.{KeepsTime, member_at, refusal_of, after};
+ghost use Rattle.machine_laws.specs.Machine.Step.{fail, grant};
+ghost use Rattle.machine_laws.specs.Moves.{Doing, Scripts, step_by, call_by};
+ghost use Rattle.one_place.specs.Plan.{federate_limit};
 ghost use Rattle.one_place.specs.Step.{step_of};
-ghost use Rattle.one_place.specs.Reference.{call_at, plays_of, script_at, HasReferenceLogs};
-ghost use Rattle.one_place.specs.Run.{wires_at, play_of, may_move, is_calling, calling_step, IsNextToMove, AreInScripts, PlaysOut, begun_stage};
+ghost use Rattle.one_place.specs.Machine.{refusal_at};
+ghost use Rattle.one_place.specs.Reference.{taken_over, plays_of, HasReferenceLogs};
+ghost use Rattle.one_place.specs.Run.{wires_at, play_of, may_move, is_calling, going, passed, calling_step, entry_in, actor_at, actor_after, step_at, IsNextToMove, IsActor, AreActors, AreFollowing, first_actors, PlaysOut, begun_stage};
 
-use crate::{Action, CallRefusal, Logs, Machine, MachineStep, Plan, Scenario, Script, Unlawful};
+use crate::actor::{Actor, actors_of};
+use crate::{CallRefusal, Logs, Machine, MachineStep, Plan, Scenario, Unlawful};
 use hel_lists::OutOfMemory;
 use hel_values::TextValue;
 use std::alloc::Global;
@@ -19,11 +23,13 @@ use time_state::Phase;
 /// its next call, or gets the grant that it waits for, until none may: docs/RULES.md, Reference run.
 /// It answers `OutOfMemory` for want of memory alone.
 pub fn reference(alloc: Global, scenario: Scenario) -> Result<Logs, OutOfMemory>
-    ensures { IfOk result (λ logs. HasReferenceLogs scenario.plan.names scenario.scripts logs.feds) }
+    ensures { IfOk result (λ logs. HasReferenceLogs scenario.plan scenario.scripts logs.feds) }
 {
     let Scenario { plan, scripts } = scenario;
-    let machine = begun_machine(alloc, plan)?;
-    played_logs(alloc, machine, scripts.as_slice())
+    let mut actors = actors_of(alloc, plan.federates(), scripts)?;
+    let mut machine = begun_machine(alloc, plan)?;
+    play_out(alloc, &mut machine, &mut actors)?;
+    Ok(machine.into_logs())
 }
 
 // The machine of a plan, begun.
@@ -33,46 +39,6 @@ fn begun_machine(alloc: Global, plan: Plan) -> Result<Machine, OutOfMemory>
     let mut machine = Machine::open(alloc, plan)?;
     machine.apply(MachineStep::Begin)?;
     Ok(machine)
-}
-
-// No federate has called yet.
-fn no_calls(alloc: Global, count: usize) -> Result<Vec<usize>, OutOfMemory>
-    ensures { IfOk result (λ calls. calls.items ≡ replicate count 0) }
-{
-    Ok(vec![in alloc; 0usize; count]?)
-}
-
-// The logs at the end of the scripts.
-#[tactic(auto, using(crate::proofs::Starting::starts))]
-fn played_logs(alloc: Global, mut machine: Machine, scripts: &[Script]) -> Result<Logs, OutOfMemory>
-    requires begun { machine ≡ begun_stage machine.plan }
-    requires each { length scripts.now ≡ length machine.plan.names }
-    requires few { length scripts.now ≤ federate_limit }
-    ensures { IfOk result (λ logs. HasReferenceLogs machine.plan.names scripts.now logs.feds) }
-{
-    let mut calls = no_calls(alloc, scripts.len())?;
-    play_out(alloc, &mut machine, scripts, &mut calls)?;
-    Ok(machine.into_logs())
-}
-
-// The next call of a script: to enter, then its actions, and at its end to finish.
-#[tactic(auto, using(crate::proofs::Scripts::time_at))]
-fn script_call(f: u16, actions: &[Action], calls: usize) -> MachineStep
-    requires { KeepsTimes actions.now }
-    ensures step { step_of result ≡ step_by f (call_at actions.now calls) }
-    ensures times { KeepsTime (step_of result) }
-{
-    if calls == 0 {
-        return MachineStep::Enter(f);
-    }
-    match actions.get(calls - 1) {
-        Some(Action::Request { time, mode }) => MachineStep::Request {
-            fed: f,
-            time: *time,
-            mode: *mode,
-        },
-        Some(Action::Finish) | None => MachineStep::Finish(f),
-    }
 }
 
 // The name of a refusal.
@@ -132,92 +98,90 @@ fn next_to_move(machine: &Machine) -> Option<u16>
 }
 
 // A federate makes the next call of its script, or fails where that is refused.
-#[tactic(auto, using(crate::proofs::Scripts::call_refused, crate::proofs::Scripts::calling_known))]
-fn call(
-    alloc: Global,
-    machine: &mut Machine,
-    f: u16,
-    actions: &[Action],
-    calls: usize,
-) -> Result<(), OutOfMemory>
+fn call(alloc: Global, machine: &mut Machine, f: u16, actor: &mut Actor) -> Result<(), OutOfMemory>
     requires calling { is_calling (member_at machine.old.state f).time.phase ≡ true }
-    requires times { KeepsTimes actions.now }
-    ensures { OnOk result (machine.new ≡ record machine.old { state = after (wires_at machine.old) machine.old.state (calling_step machine.old f actions.now calls) }) }
+    requires rules { IsCourse actor.old.script }
+    ensures machine { OnOk result (machine.new ≡ record machine.old { state = after (wires_at machine.old) machine.old.state (calling_step machine.old f actor.old) }) }
+    ensures actor { OnOk result (actor.new ≡ passed (member_at machine.old.state f).time.phase actor.old) }
 {
-    let step = script_call(f, actions, calls);
-    let step = match machine.refusal(&step) {
-        None => step,
-        Some(unlawful) => match unlawful {
-            Unlawful::Refused(refusal) => failure(alloc, f, refusal)?,
-            _ => unreachable!(),
-        },
-    };
-    machine.apply(step)
-}
-
-// The actions of a federate's script.
-fn actions_of(scripts: &[Script], at: usize) -> &[Action]
-    requires { at < length scripts.now }
-    ensures actions { result.now ≡ script_at scripts.now at }
-    ensures times { KeepsTimes result.now }
-{
-    scripts[at].actions()
-}
-
-// A federate that calls makes its next call.
-#[tactic(auto, using(crate::proofs::Scripts::calling_known, crate::proofs::Work::counts_length, crate::proofs::Work::scripts_length, crate::proofs::Work::calling_still, crate::proofs::Turns::call_moves))]
-fn next_call(
-    alloc: Global,
-    machine: &mut Machine,
-    scripts: &[Script],
-    calls: &mut [usize],
-    f: u16,
-) -> Result<(), OutOfMemory>
-    requires calling { is_calling (member_at machine.old.state f).time.phase ≡ true }
-    requires within { AreInScripts machine.old.state.members calls.old scripts.now }
-    ensures moved { OnOk result (move (wires_at machine.old) (plays_of scripts.now) f (play_of machine.old calls.old) ≡ Some (play_of machine.new calls.new)) }
-    ensures plan { OnOk result (machine.new.plan ≡ machine.old.plan) }
-{
-    let at = usize::from(f);
-    let actions = actions_of(scripts, at);
-    call(alloc, machine, f, actions, calls[at])?;
-    calls[at] += 1;
+    let phase = machine.phase(f);
+    let step = actor.next(alloc, f, phase)?;
+    let step = or_failure(alloc, machine, f, step)?;
+    machine.apply(step)?;
+    actor.pass(phase);
     Ok(())
 }
 
+// A step, or the failure in its place where the call is refused.
+fn or_failure(
+    alloc: Global,
+    machine: &Machine,
+    f: u16,
+    step: MachineStep,
+) -> Result<MachineStep, OutOfMemory>
+    requires calling { is_calling (member_at machine.now.state f).time.phase ≡ true }
+    requires step { (doing : Doing) × (step_of step ≡ step_by f doing) }
+    requires time { KeepsTime (step_of step) }
+    ensures step { IfOk result (λ taken. (doing : Doing) → step_of step ≡ step_by f doing → step_of taken ≡ call_by (wires_at machine.now) f (member_at machine.now.state f) doing) }
+    ensures lawful { IfOk result (λ taken. refusal_at machine.now taken ≡ None) }
+    ensures time { IfOk result (λ taken. KeepsTime (step_of taken)) }
+{
+    match machine.refusal(&step) {
+        None => Ok(step),
+        Some(unlawful) => match unlawful {
+            Unlawful::Refused(refusal) => failure(alloc, f, refusal),
+            _ => unreachable!(),
+        },
+    }
+}
+
+// A federate gets the grant that it waits for.
+fn granted(
+    alloc: Global,
+    machine: &mut Machine,
+    f: u16,
+    actor: &mut Actor,
+) -> Result<(), OutOfMemory>
+    requires lawful { refusal_of (wires_at machine.old) machine.old.state (grant f) ≡ None }
+    ensures machine { OnOk result (machine.new ≡ record machine.old { state = after (wires_at machine.old) machine.old.state (grant f) }) }
+    ensures actor { OnOk result (actor.new ≡ record actor.old { view = taken_over actor.old.view (entry_in machine.old.state f) }) }
+{
+    machine.apply(MachineStep::Grant(f))?;
+    match machine.entries(f).last() {
+        Some(entry) => actor.take_over(alloc, entry),
+        None => unreachable!(),
+    }
+}
+
 // A federate that may act does so.
-#[tactic(auto, using(crate::proofs::Turns::grant_moves))]
 fn turn(
     alloc: Global,
     machine: &mut Machine,
-    scripts: &[Script],
-    calls: &mut [usize],
+    actors: &mut [Actor],
     f: u16,
 ) -> Result<(), OutOfMemory>
     requires moves { may_move machine.old f ≡ true }
-    requires within { AreInScripts machine.old.state.members calls.old scripts.now }
-    ensures moved { OnOk result (move (wires_at machine.old) (plays_of scripts.now) f (play_of machine.old calls.old) ≡ Some (play_of machine.new calls.new)) }
-    ensures plan { OnOk result (machine.new.plan ≡ machine.old.plan) }
+    requires within { f < length actors.old }
+    requires actors { Each IsActor actors.old }
+    ensures machine { OnOk result (machine.new ≡ record machine.old { state = after (wires_at machine.old) machine.old.state (step_at machine.old f (actor_at actors.old f)) }) }
+    ensures actors { OnOk result (actors.new ≡ slice_set actors.old f (actor_after machine.old f (actor_at actors.old f))) }
 {
+    let actor = &mut actors[usize::from(f)];
     match machine.phase(f) {
-        Phase::Initializing | Phase::Running => next_call(alloc, machine, scripts, calls, f),
-        _ => machine.apply(MachineStep::Grant(f)),
+        Phase::Initializing | Phase::Running => call(alloc, machine, f, actor),
+        _ => granted(alloc, machine, f, actor),
     }
 }
 
 // The federates act, always the least that may, until none may.
-fn play_out(
-    alloc: Global,
-    machine: &mut Machine,
-    scripts: &[Script],
-    calls: &mut [usize],
-) -> Result<(), OutOfMemory>
-    requires few { length scripts.now ≤ federate_limit }
-    requires within { AreInScripts machine.old.state.members calls.old scripts.now }
-    ensures { OnOk result (PlaysOut (wires_at machine.old) scripts.now (play_of machine.old calls.old) (play_of machine.new calls.new)) }
+fn play_out(alloc: Global, machine: &mut Machine, actors: &mut [Actor]) -> Result<(), OutOfMemory>
+    requires few { length machine.old.state.members ≤ federate_limit }
+    requires actors { AreActors machine.old.state actors.old }
+    ensures { OnOk result ((plays : Scripts) (calls : List ℕ) → AreFollowing plays machine.old.state calls actors.old →
+        (end : List ℕ) × PlaysOut (wires_at machine.old) plays (play_of machine.old calls) (play_of machine.new end)) }
 {
     while let Some(f) = next_to_move(machine) {
-        turn(alloc, machine, scripts, calls, f)?;
+        turn(alloc, machine, actors, f)?;
     }
     Ok(())
 }

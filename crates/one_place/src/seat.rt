@@ -1,32 +1,162 @@
-// One federate of the machine: its clock and its log, which change together.
-ghost use Rattle.std.specs.Prelude.{◌≡◌, ◌≢◌, ◌≤◌, [], None, OnOk, OnErr, true};
-ghost use Rattle.helics_time.specs.Time.{max_time};
-ghost use Rattle.time_state.specs.Fed.{enter_refusal, request_refusal, is_asking, is_live};
+// One federate of the machine: its clock with its queue, and its log, which change together.
+ghost use Rattle.std.specs.Prelude.{◌≡◌, ◌≢◌, ◌≤◌, ◌<◌, ◌^◌, ◌+◌, ◌++◌, ◌∷◌, [], None, OnOk, OnErr, IfOk, true, not, map};
+ghost use Rattle.std.specs.List.{filter};
+ghost use Rattle.hel_lists.specs.Members.{Each};
+ghost use Rattle.helics_time.specs.Stamp.{IsDue};
+ghost use Rattle.helics_time.specs.Time.{max_time, horizon};
+ghost use Rattle.due_queue.specs.Item.{is_due};
+ghost use Rattle.due_queue.specs.Order.{enqueue};
+ghost use Rattle.time_state.specs.Fed.{IsFed, created, zero_stamp, event_of, cut_of, enter_refusal, request_refusal, is_asking, is_live};
+ghost use Rattle.machine_laws.specs.Plan.{item_of};
 ghost use Rattle.machine_laws.specs.Machine.{begun_member, entered_member, requested_member, granted_member, ended_member, failed_member};
-ghost use Rattle.one_place.specs.Members.{member_of, IsSeat, IsSeatOf, halted_member};
+ghost use Rattle.one_place.specs.Plan.{leg_to};
+ghost use Rattle.one_place.specs.Members.{dues_of, member_of, IsSeat, IsSeatOf, with_queue, taken_back, halted_member};
 
-use hel_lists::{Items, OutOfMemory};
-use hel_values::TextValue;
+use due_queue::{Content, DueQueue, Item};
+use hel_lists::{Copied, OutOfMemory};
+use hel_values::{EndRef, TextValue, Value};
+use helics_time::{Settings, Stamp};
 use iteration_rules::Mode;
 use machine_laws::{FedLog, LogEnd, LogEntry};
 use std::alloc::Global;
 use time_state::{Cause, FedTime, Phase};
 
-/// What changes often of a federate: its time and its next sequence number.
+/// What changes often of a federate: its time, its next sequence number, the items under way to it,
+/// and the stamp at which it acts next.
 #[derive(Debug, Drop)]
 pub struct Clock {
     pub time: FedTime,
     pub seq: u64,
+    pub queue: DueQueue,
+    pub event: Stamp,
+}
+
+impl Clock {
+    /// A federate that is Created.
+    pub fn new(alloc: Global, settings: Settings) -> Clock
+        ensures { result ≡ record { time = created settings; seq = 0; queue = []; event = zero_stamp } }
+    {
+        Clock {
+            time: FedTime::new(settings),
+            seq: 0,
+            queue: DueQueue::new(alloc),
+            event: Stamp { time: 0, micro: 0 },
+        }
+    }
+
+    // Finds the stamp at which it acts next.
+    fn refresh(&mut self)
+        requires { IsFed self.old.time }
+        ensures event { self.new ≡ with_queue self.old self.old.queue }
+        ensures dues { Each (λ i. IsDue i.due) self.new.queue }
+    {
+        self.event = event_over(&self.time, &self.queue);
+    }
+
+    // The item of a publication to one of its targets.
+    #[tactic(auto, using(crate::proofs::Events::sent_due, crate::proofs::Events::own_due))]
+    fn sent(
+        &self,
+        alloc: Global,
+        publication: EndRef,
+        value: &Value,
+        target: EndRef,
+    ) -> Result<Item, OutOfMemory>
+        requires fed { IsFed self.now.time }
+        requires low { self.now.time.last.time < horizon }
+        requires small { self.now.time.last.micro < 2 ^ 62 }
+        ensures { IfOk result (λ item. item ≡ item_of self.now.time publication.fed self.now.seq (leg_to publication value.now target)) }
+    {
+        let due = if target.fed == publication.fed {
+            self.time.last_cut().next()
+        } else {
+            self.time.own().next()
+        };
+        Ok(Item {
+            source: publication.fed,
+            seq: self.seq,
+            target: target.fed,
+            due,
+            content: Content::Value {
+                input: target.index,
+                publication,
+                value: value.copy(alloc)?,
+            },
+        })
+    }
+
+    /// The items of a publication, one to each of its targets.
+    pub fn published(
+        &self,
+        alloc: Global,
+        publication: EndRef,
+        value: &Value,
+        targets: &[EndRef],
+    ) -> Result<Vec<Item>, OutOfMemory>
+        requires fed { IsFed self.now.time }
+        requires low { self.now.time.last.time < horizon }
+        requires small { self.now.time.last.micro < 2 ^ 62 }
+        ensures { IfOk result (λ items. items.items ≡ map (item_of self.now.time publication.fed self.now.seq) (map (leg_to publication value.now) targets.now)) }
+    {
+        let mut items = Vec::with_capacity(alloc, targets.len())?;
+        for target in targets {
+            items.push(self.sent(alloc, publication, value, *target)?)?;
+        }
+        Ok(items)
+    }
+
+    /// Puts an item into its queue.
+    pub fn put(&mut self, item: Item) -> Result<(), OutOfMemory>
+        requires { IsFed self.old.time }
+        ensures ok { OnOk result (self.new ≡ with_queue self.old (enqueue item self.old.queue)) }
+        ensures dues { OnOk result (Each (λ i. IsDue i.due) self.new.queue) }
+        ensures err { OnErr result (self.new ≡ self.old) }
+    {
+        match self.queue.put(item) {
+            Ok(()) => {
+                self.refresh();
+                Ok(())
+            }
+            Err(_) => Err(OutOfMemory),
+        }
+    }
+
+    /// Takes the items of one call out of its queue.
+    pub fn take_back(&mut self, source: u16, seq: u64)
+        requires { IsFed self.old.time }
+        ensures { self.new ≡ taken_back source seq self.old }
+    {
+        let _ = self.queue.take_back(source, seq);
+        self.refresh();
+    }
+}
+
+// The stamp at which a federate acts next: of the items in its queue the least due decides.
+#[tactic(auto, using(crate::proofs::Events::first_decides))]
+fn event_over(time: &FedTime, queue: &DueQueue) -> Stamp
+    requires { IsFed time.now }
+    ensures event { result ≡ event_of time.now (dues_of queue.now) }
+    ensures dues { Each (λ i. IsDue i.due) queue.now }
+{
+    time.event(queue.least())
+}
+
+// Takes what is due by the cut out of a queue.
+fn drop_due(queue: &mut DueQueue, cut: Stamp)
+    ensures { queue.new ≡ filter (λ i. not (is_due cut i)) queue.old }
+{
+    while let Some(_) = queue.take_due(cut) {}
 }
 
 /// A federate that is Created becomes Initializing.
 pub fn begin(clock: &mut Clock, log: &mut FedLog)
     requires { IsSeat clock.old log.old }
-    ensures { IsSeatOf clock.new log.new (begun_member (member_of clock.old log.old)) }
+    ensures { IsSeatOf clock.new log.new (begun_member (member_of clock.old log.old)) clock.old.queue }
 {
     if clock.time.phase() == Phase::Created {
         clock.time.begin();
         log.end = LogEnd::Open(Phase::Initializing);
+        clock.refresh();
     }
 }
 
@@ -34,10 +164,11 @@ pub fn begin(clock: &mut Clock, log: &mut FedLog)
 pub fn enter(clock: &mut Clock, log: &mut FedLog)
     requires seat { IsSeat clock.old log.old }
     requires may { enter_refusal clock.old.time ≡ None }
-    ensures { IsSeatOf clock.new log.new (entered_member (member_of clock.old log.old)) }
+    ensures { IsSeatOf clock.new log.new (entered_member (member_of clock.old log.old)) clock.old.queue }
 {
     let _ = clock.time.enter();
     log.end = LogEnd::Open(Phase::Entering);
+    clock.refresh();
 }
 
 /// A federate asks for a time.
@@ -45,26 +176,35 @@ pub fn request(clock: &mut Clock, log: &mut FedLog, time: u64, mode: Mode)
     requires seat { IsSeat clock.old log.old }
     requires may { request_refusal clock.old.time ≡ None }
     requires fits { time ≤ max_time }
-    ensures { IsSeatOf clock.new log.new (requested_member (member_of clock.old log.old) time mode) }
+    ensures { IsSeatOf clock.new log.new (requested_member (member_of clock.old log.old) time mode) clock.old.queue }
 {
     let _ = clock.time.request(time, mode);
     log.end = LogEnd::Open(Phase::Waiting);
+    clock.refresh();
 }
 
-/// A federate gets its next stamp. The log's entry comes first: without memory for it nothing changes.
-pub fn grant(alloc: Global, clock: &mut Clock, log: &mut FedLog) -> Result<(), OutOfMemory>
+/// A federate gets its next stamp, and is handed over what is due by the cut. Copies for the log come
+/// first: without memory for them nothing changes.
+pub fn grant(clock: &mut Clock, log: &mut FedLog) -> Result<(), OutOfMemory>
     requires seat { IsSeat clock.old log.old }
     requires asks { is_asking clock.old.time.phase ≡ true }
-    ensures ok { OnOk result (IsSeatOf clock.new log.new (granted_member (member_of clock.old log.old) [] [])) }
+    ensures ok { OnOk result (
+        let dues = dues_of clock.old.queue in
+        let cut = cut_of clock.old.time dues in
+        IsSeatOf clock.new log.new (granted_member (member_of clock.old log.old) dues (filter (is_due cut) clock.old.queue))
+        (filter (λ i. not (is_due cut i)) clock.old.queue)) }
     ensures same_clock { OnErr result (clock.new ≡ clock.old) }
     ensures same_log { OnErr result (log.new ≡ log.old) }
 {
-    let stamp = clock.time.event(None);
+    let stamp = clock.event;
+    let cut = clock.time.cut_at(stamp);
+    let items = clock.queue.due_copies(cut)?;
     log.entries.push(LogEntry {
         grant: clock.time.next_grant_at(stamp),
-        items: Items::new(alloc),
+        items,
     })?;
     clock.time.grant_at(stamp);
+    drop_due(&mut clock.queue, cut);
     log.end = LogEnd::Open(Phase::Running);
     Ok(())
 }
@@ -74,26 +214,28 @@ pub fn end(clock: &mut Clock, log: &mut FedLog, cause: Cause)
     requires seat { IsSeat clock.old log.old }
     requires live { is_live clock.old.time.phase ≡ true }
     requires otherwise { cause ≢ Cause.Failed }
-    ensures { IsSeatOf clock.new log.new (ended_member (member_of clock.old log.old) cause) }
+    ensures { IsSeatOf clock.new log.new (ended_member (member_of clock.old log.old) cause) clock.old.queue }
 {
     clock.time.end(cause, None);
     log.end = LogEnd::Ended(cause);
+    clock.refresh();
 }
 
 /// A federate fails, and its log tells this text.
 pub fn fail(clock: &mut Clock, log: &mut FedLog, text: TextValue)
     requires seat { IsSeat clock.old log.old }
     requires live { is_live clock.old.time.phase ≡ true }
-    ensures { IsSeatOf clock.new log.new (failed_member (member_of clock.old log.old) text) }
+    ensures { IsSeatOf clock.new log.new (failed_member (member_of clock.old log.old) text) clock.old.queue }
 {
     clock.time.end(Cause::Failed, None);
     log.end = LogEnd::FailedText(text);
+    clock.refresh();
 }
 
 /// A federate that lives is halted by `fed`.
 pub fn halt(clock: &mut Clock, log: &mut FedLog, fed: u16)
     requires { IsSeat clock.old log.old }
-    ensures { IsSeatOf clock.new log.new (halted_member fed (member_of clock.old log.old)) }
+    ensures { IsSeatOf clock.new log.new (halted_member fed (member_of clock.old log.old)) clock.old.queue }
 {
     if !matches!(clock.time.phase(), Phase::Ended(_)) {
         end(clock, log, Cause::Halted { fed });

@@ -1,6 +1,6 @@
-use Rattle.std.proofs.Common.{◌≡◌}
-use Rattle.machine_laws.specs.Moves.{Play}
-use Rattle.one_place.specs.Run.{wires_at, play_of, AreInScripts, PlaysOut}
+use Rattle.std.proofs.Common.{◌≡◌, ℕ, List}
+use Rattle.machine_laws.specs.Moves.{Scripts, Play}
+use Rattle.one_place.specs.Run.{wires_at, play_of, AreActors, AreFollowing, PlaysOut}
 use Rattle.one_place.proofs.Work.{work}
 use Rattle.one_place.proofs.run.play_out.Given as goal
 
@@ -9,9 +9,11 @@ abbrev pub invariant-loop-f : goal.invariant-loop-f
 invariant-loop-f l =
     record {
       plan : l.machine.plan ≡ l.fn.machine.plan;
-      within : AreInScripts l.machine.state.members l.calls l.scripts;
-      more : (end : Play) → PlaysOut (wires_at l.machine) l.scripts (play_of l.machine l.calls) end → PlaysOut (wires_at l.fn.machine) l.scripts (play_of l.fn.machine l.fn.calls) end;
+      actors : AreActors l.machine.state l.actors;
+      more : (plays : Scripts) (calls : List ℕ) → AreFollowing plays l.fn.machine.state calls l.fn.actors →
+          (now : List ℕ) × AreFollowing plays l.machine.state now l.actors
+          × ((end : Play) → PlaysOut (wires_at l.machine) plays (play_of l.machine now) end → PlaysOut (wires_at l.fn.machine) plays (play_of l.fn.machine calls) end);
     }
 
 abbrev pub decreases-loop-f : goal.decreases-loop-f
-decreases-loop-f l = work l.machine.state.members l.calls l.scripts
+decreases-loop-f l = work l.machine.state.members l.actors

@@ -1,0 +1,45 @@
+use Rattle.std.proofs.Common.{◌≡◌, ◌<◌, ◌∙◌, ℕ, List, length, Some, ap, sym, arith}
+use Rattle.std.specs.Prelude.{slice_index_or}
+use Rattle.helics_time.specs.Stamp.{before, next_of}
+use Rattle.dependency_paths.specs.Paths.{row_of}
+use Rattle.machine_laws.specs.declared.refusal.Unlawful.TheVariants.{Early}
+use Rattle.machine_laws.specs.Plan.{Plan}
+use Rattle.machine_laws.specs.Machine.{State, cut_in, event_in}
+use Rattle.one_place.specs.Machine.{Stage}
+use Rattle.one_place.specs.Plan.{wires_of}
+use Rattle.one_place.proofs.Lawful.{holder_next, holder_found}
+use Rattle.one_place.proofs.machine.Machine.holder.Goals as goal
+
+pub returns-then-not-sends_past : goal.returns-then-not-sends_past
+returns-then-not-sends_past c =
+    let s : State = c.args.self.now.state in
+    let p : Plan = wires_of c.args.self.now.plan in
+    let f : ℕ = c.args.f in
+    let i : ℕ = c.loop-ancestor.ancestor-index in
+    let ancestors : List ℕ = row_of c.args.self.now.plan.ancestors f in
+    let row : c.ancestors-ancestor-items.result.now ≡ ancestors = c.ancestors-ancestor-items.ensures ∙ ap (λ (x : Stage). row_of x.plan.ancestors f) c.self.view_is in
+    let members : c.self.inside.members ≡ s = ap (λ (x : Stage). x.state) c.self.view_is in
+    let cut : c.cut-cut.result ≡ cut_in s f = c.cut-cut.ensures ∙ ap (λ (x : State). cut_in x f) members in
+    let event : c.event-stamp.result ≡ event_in s (slice_index_or ancestors i 0) =
+    c.event-stamp.ensures ∙ (λ k. event_in (members k) (slice_index_or (row k) i 0)) in
+    let within : i < length ancestors = let many = ap length row in omega (arith, many) in
+    let test : c.sends_past.result ≡ before (cut_in s f) (next_of (event_in s (slice_index_or ancestors i 0))) =
+    c.sends_past.ensures ∙ (λ k. before (cut k) (next_of (event k))) in
+    (λ k. Some (Early (slice_index_or (row k) i 0) (event k))) ∙ sym (holder_found p s (cut_in s f) ancestors i within (sym test ∙ c.if-not-sends_past.true)) ∙ c.loop-ancestor.invariant
+
+pub loop-ancestor-preserved : goal.loop-ancestor-preserved
+loop-ancestor-preserved c =
+    let s : State = c.args.self.now.state in
+    let p : Plan = wires_of c.args.self.now.plan in
+    let f : ℕ = c.args.f in
+    let i : ℕ = c.loop-ancestor.ancestor-index in
+    let ancestors : List ℕ = row_of c.args.self.now.plan.ancestors f in
+    let row : c.ancestors-ancestor-items.result.now ≡ ancestors = c.ancestors-ancestor-items.ensures ∙ ap (λ (x : Stage). row_of x.plan.ancestors f) c.self.view_is in
+    let members : c.self.inside.members ≡ s = ap (λ (x : Stage). x.state) c.self.view_is in
+    let cut : c.cut-cut.result ≡ cut_in s f = c.cut-cut.ensures ∙ ap (λ (x : State). cut_in x f) members in
+    let event : c.event-stamp.result ≡ event_in s (slice_index_or ancestors i 0) =
+    c.event-stamp.ensures ∙ (λ k. event_in (members k) (slice_index_or (row k) i 0)) in
+    let within : i < length ancestors = let many = ap length row in omega (arith, many) in
+    let test : c.sends_past.result ≡ before (cut_in s f) (next_of (event_in s (slice_index_or ancestors i 0))) =
+    c.sends_past.ensures ∙ (λ k. before (cut k) (next_of (event k))) in
+    sym (holder_next p s (cut_in s f) ancestors i within (sym test ∙ c.if-not-sends_past.false)) ∙ c.loop-ancestor.invariant
