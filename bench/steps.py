@@ -6,15 +6,12 @@ seconds of the processor (the least of several runs), peak memory and the expone
 status 1 where the exponent of time or the peak passes its limit.
 """
 import json
-import math
-import os
 import pathlib
-import subprocess
 import sys
 import tempfile
 
-ROOT = pathlib.Path(__file__).resolve().parent.parent
-PROGRAM = ROOT / "crates/helics_run/out/helics_run"
+from measured import PROGRAM, exponent, sim
+
 FILE_LIMIT = 16_777_216  # the greatest length of a file, in bytes
 ACTION_LIMIT = 1_000_000  # the greatest number of actions
 FRACTIONS = (0.25, 0.5, 1.0)
@@ -47,16 +44,11 @@ def federate_file(action, most_bytes, most_actions):
 
 def run(folder, grants):
     """Seconds of the processor and peak memory in MiB of one run, which prints so many grants."""
-    out = folder / "out.txt"
-    with open(out, "wb") as sink:
-        child = subprocess.Popen([str(PROGRAM), "sim", str(folder / "run.json")], stdout=sink)
-        _, status, usage = os.wait4(child.pid, 0)
-    if os.waitstatus_to_exitcode(status) != 0:
-        sys.exit("steps: the program ended with status %d" % os.waitstatus_to_exitcode(status))
-    printed = out.read_bytes().count(b"\ngrant ")
+    seconds, peak, out = sim(folder)
+    printed = out.count(b"\ngrant ")
     if printed != grants:
         sys.exit("steps: %d grants and not %d" % (printed, grants))
-    return usage.ru_utime + usage.ru_stime, usage.ru_maxrss / 1024
+    return seconds, peak
 
 
 def measure(name, action, grants_of, folder):
@@ -70,11 +62,12 @@ def measure(name, action, grants_of, folder):
         seconds, peak = min(r[0] for r in runs), max(r[1] for r in runs)
         rows.append((count, seconds, peak))
         print("%s  %8d   %11.1f   %17.2f   %8.0f" % (" " * len(name), count, len(text) / 2**20, seconds, peak))
-    growth = math.log(rows[-1][0] / rows[0][0])
-    exponent = math.log(rows[-1][1] / rows[0][1]) / growth
+    first, last = rows[0], rows[-1]
+    time_grows = exponent(first[0], last[0], first[1], last[1])
+    memory_grows = exponent(first[0], last[0], first[2], last[2])
     print("%s  exponent of time %.2f (limit %.1f), of memory %.2f; peak %.0f MiB (limit %d)" % (
-        " " * len(name), exponent, EXPONENT_LIMIT, math.log(rows[-1][2] / rows[0][2]) / growth, rows[-1][2], PEAK_LIMIT))
-    return exponent < EXPONENT_LIMIT and rows[-1][2] < PEAK_LIMIT
+        " " * len(name), time_grows, EXPONENT_LIMIT, memory_grows, last[2], PEAK_LIMIT))
+    return time_grows < EXPONENT_LIMIT and last[2] < PEAK_LIMIT
 
 
 def main():
