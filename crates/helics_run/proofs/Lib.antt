@@ -2,11 +2,13 @@ pub mod Counts
 pub mod Digits
 pub mod Folders
 pub mod Lists
+pub mod NameTables
 pub mod Parsing
 pub mod Orders
-pub mod Scripts
-pub mod Scenarios
-pub mod Times
+pub mod ForEach
+pub mod KnownPlaces
+pub mod Federates
+pub mod Settings
+pub mod Spoken
 pub mod Told
 pub mod Written
-pub mod Spoken

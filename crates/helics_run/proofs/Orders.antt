@@ -7,7 +7,7 @@ use Rattle.helics_run.specs.declared.failure.Refusal.{Refusal}
 use Rattle.helics_run.specs.declared.failure.Failure.{Failure}
 use Rattle.helics_run.specs.declared.failure.Failure.TheVariants.{BadWords, FileFault, Refused, OutOfMemory}
 
-ok_same : {A E : Type 0} (x y : A) → ◌≡◌ {A = Result A E} (Ok x) (Ok y) → x ≡ y
+pub ok_same : {A E : Type 0} (x y : A) → ◌≡◌ {A = Result A E} (Ok x) (Ok y) → x ≡ y
 ok_same x y e = cc
 
 err_same : {A E : Type 0} (x y : E) → ◌≡◌ {A = Result A E} (Err x) (Err y) → x ≡ y
@@ -24,6 +24,15 @@ reads_then content (ends (Ok y)) next x end first rest =
 reads_then content (ends (Err r)) next x end first rest = absurd (ok_not_err x r first)
 reads_then content (asks path go) next x end first rest =
     (first.0, (first.1.0, reads_then content (go first.0) next x end first.1.1 rest))
+
+-- what is read first, where what is read by it is read
+pub reads_parts : {A B : Type 0} (content : List ℕ → Option (List ℕ)) (order : Order A) (next : A → Order B) (y : B)
+    → Reads content (order >>= next) (Ok y) → (x : A) × (Reads content order (Ok x) × Reads content (next x) (Ok y))
+reads_parts content (ends (Ok x)) next y read = (x, (refl, read))
+reads_parts content (ends (Err r)) next y read = absurd (ok_not_err y r read)
+reads_parts content (asks path go) next y read =
+    let rest = reads_parts content (go read.0) next y read.1.1 in
+    (rest.0, ((read.0, (read.1.0, rest.1.0)), rest.1.1))
 
 -- a refusal stands, whatever would be read after it
 pub reads_refused : {A B : Type 0} (content : List ℕ → Option (List ℕ)) (order : Order A) (next : A → Order B) (r : Refusal)

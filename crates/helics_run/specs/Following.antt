@@ -21,6 +21,11 @@ abbrev pub CountsFaults : {X : Type 0} → Result X Failure → ℕ → ℕ → 
 CountsFaults (Err (FileFault path)) before after failed_path = Rose before after × (failed_path ≡ path)
 CountsFaults result before after failed_path = after ≡ before
 
+-- no read failed
+abbrev pub NoneFailed : {X : Type 0} → Result X Failure → Type 0
+NoneFailed (Err (FileFault path)) = ⊥
+NoneFailed result = Unit {0}
+
 -- what a file's form gives, as an answer for the file at this path
 abbrev pub answered : {X : Type 0} → List ℕ → Result X Unread → Result X Failure
 answered path (Ok x) = Ok x

@@ -5,6 +5,12 @@ use Rattle.helics_run.specs.declared.failure.RefusalName.TheVariants.{NotBuilt}
 use Rattle.helics_run.specs.declared.failure.Unread.{Unread}
 use Rattle.helics_run.specs.declared.failure.Unread.TheVariants.{Refused, OutOfMemory}
 
+-- what is read next by what was read, where that is of its form
+infixl 10 ◌>>=◌
+abbrev pub ◌>>=◌ : {A B : Type 0} → Option A → (A → Option B) → Option B
+None >>= next = None
+(Some x) >>= next = next x
+
 -- a file that isn't of its form
 abbrev pub or_not_built : {A : Type 0} → Option A → Result A RefusalName
 or_not_built None = Err NotBuilt

@@ -2,8 +2,11 @@ pub mod Words
 pub mod Order
 pub mod Json
 pub mod Form
+pub mod Names
+pub mod Interfaces
 pub mod RunnerFile
 pub mod FederateFile
+pub mod Publications
 pub mod Paths
 pub mod Reading
 pub mod Following

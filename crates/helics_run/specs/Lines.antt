@@ -17,6 +17,9 @@ cannot_read path = codes "cannot read " ++ path
 abbrev pub cannot_write : List ℕ
 cannot_write = codes "cannot write"
 
+abbrev pub stuck : List ℕ
+stuck = codes "stuck"
+
 abbrev pub out_of_memory : List ℕ
 out_of_memory = codes "out of memory"
 

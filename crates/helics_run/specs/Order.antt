@@ -1,5 +1,5 @@
 -- Orders of reading: which file is asked for next, by what those before it gave, and what comes of it.
-use Rattle.std.specs.Prelude.{ℕ, ◌<◌, ◌≤◌, ◌≡◌, ◌⊎◌, List, length, Option, IfSome, Result, Ok, Err}
+use Rattle.std.specs.Prelude.{ℕ, ◌<◌, ◌≤◌, ◌≡◌, ◌⊎◌, List, [], ◌∷◌, length, Option, IfSome, Result, Ok, Err}
 use Rattle.hel_outside.specs.Faults.{file_limit}
 use Rattle.helics_run.specs.declared.failure.Refusal.{Refusal}
 use Rattle.helics_run.specs.declared.failure.RefusalName.{RefusalName}
@@ -21,6 +21,14 @@ abbrev pub ◌>>=◌ : {A B : Type 0} → Order A → (A → Order B) → Order 
 (ends (Ok x)) >>= f = f x
 (ends (Err r)) >>= f = ends (Err r)
 (asks path next) >>= f = asks path (λ given. next given >>= f)
+
+-- what is read by each of a list, in order
+unfoldable pub for_each : {A B : Type 0} → (A → Order B) → List A → Order (List B)
+for_each one [] = ends (Ok [])
+for_each one (x ∷ xs) = do
+  y ← one x
+  ys ← for_each one xs
+  ends (Ok (y ∷ ys))
 
 -- the bytes of a file
 abbrev pub bytes_of : List ℕ → Order (List ℕ)

@@ -1,25 +1,23 @@
-ghost use Rattle.std.specs.Prelude.{◌≡◌, ◌≢◌, ◌<◌, ◌⊎◌, ℕ, List, [], Ok, Err, IsSome};
-ghost use Rattle.std.specs.Prelude.{Result};
+ghost use Rattle.std.specs.Prelude.{◌≡◌, ◌≢◌, ◌<◌, ◌⊎◌, ℕ, Bool, true, false, List, [], Ok, Err, IfOk, Result, string_bytes};
+ghost use Rattle.machine_laws.specs.declared.logs.FedLog.{FedLog};
 ghost use Rattle.hel_outside.specs.Faults.{Rose, Gains, GainsPart};
-ghost use Rattle.one_place.specs.Script.{Scene};
+ghost use Rattle.one_place.specs.Text.{logs_text};
 ghost use Rattle.helics_run.specs.declared.failure.Refusal.{Refusal};
-ghost use Rattle.helics_run.specs.Words.{texts, IsSim, file_of};
-ghost use Rattle.helics_run.specs.Order.{Reads, AsksFor};
-ghost use Rattle.helics_run.specs.Reading.{scenario_at};
-ghost use Rattle.helics_run.specs.Lines.{error_line, bad_words, cannot_read, cannot_write, out_of_memory, refused};
-ghost use Rattle.helics_run.specs.Command.{IsReferenceText, IsLater, Stands, TellsAll, status_of};
-ghost use Rattle.std.specs.Prelude.{IfOk, string_bytes};
+ghost use Rattle.helics_run.specs.Words.{texts, IsSim};
+ghost use Rattle.helics_run.specs.Reading.{Setting as Scene};
+ghost use Rattle.helics_run.specs.Lines.{error_line, bad_words, cannot_read, cannot_write, stuck, out_of_memory, refused};
+ghost use Rattle.helics_run.specs.Command.{ReadsBy, AsksBy, TellsBy, HasLogs, is_live_end, ends_live, IsRunText, IsLater, Stands, StandsBy};
 ghost use Rattle.helics_run.specs.Following.{CountsFaults};
 ghost use Rattle.helics_run.specs.Answers.{Answers, Tells};
 
 use crate::failure::{Failure, cannot_read_line};
 use crate::log_text::log_text;
-use crate::reading::read_scenario;
+use crate::reading::{Setting, read_setting};
 use crate::status::Status;
 use crate::words::sim_file;
 use hel_lists::{Copied, OutOfMemory};
 use hel_outside::{Files, Sink, write_all};
-use one_place::{Scenario, reference};
+use one_place::{FedLog, LogEnd, Plan, Scenario, reference};
 use std::alloc::Global;
 
 const BAD_WORDS: &str =
@@ -27,19 +25,42 @@ const BAD_WORDS: &str =
 
 const CANNOT_WRITE: &str = "helics_run: cannot write\n";
 
+const STUCK: &str = "helics_run: stuck\n";
+
 const OUT_OF_MEMORY: &str = "helics_run: out of memory\n";
 
-// The text of the reference logs of a scenario.
-fn reference_text(alloc: Global, scenario: Scenario) -> Result<String, OutOfMemory>
-    ensures { IfOk result (λ text. IsReferenceText scenario (string_bytes text)) }
-{
-    let names = scenario.plan.names.copy(alloc)?;
-    let logs = reference(alloc, scenario)?;
-    log_text(alloc, &names, &logs)
+// What a run printed.
+#[derive(Drop)]
+struct Run {
+    // Of its logs.
+    text: String,
+    // Whether a federate is live at its end.
+    is_live: bool,
 }
 
-// The text that these words ask for.
-fn answer<F: Files>(alloc: Global, words: &[String], files: &mut F) -> Result<String, Failure>
+// Whether a federate is live at the end of these logs.
+fn ends_live(logs: &[FedLog]) -> bool
+    ensures { result ≡ ends_live logs.now }
+{
+    logs.iter().any(|log| matches!(log.end, LogEnd::Open(_)))
+}
+
+// The reference run of what was set up.
+fn run_of(alloc: Global, setting: Setting) -> Result<Run, OutOfMemory>
+    ensures { IfOk result (λ run. (logs : List FedLog) × (HasLogs setting logs
+        × (run.is_live ≡ ends_live logs) × (string_bytes run.text ≡ logs_text setting.federates logs))) }
+{
+    let Setting { federates, scripts } = setting;
+    let named = federates.copy(alloc)?;
+    let plan = Plan::build(alloc, federates)?;
+    let logs = reference(alloc, Scenario { plan, scripts })?;
+    let text = log_text(alloc, named.as_slice(), &logs)?;
+    let is_live = ends_live(logs.feds.as_slice());
+    Ok(Run { text, is_live })
+}
+
+// The run that these words ask for.
+fn answer<F: Files>(alloc: Global, words: &[String], files: &mut F) -> Result<Run, Failure>
     ensures answers { Answers (F.content files.old) (texts words.now) result }
     ensures same { (path : List ℕ) → F.content files.new path ≡ F.content files.old path }
     ensures faults { CountsFaults result (F.faults files.old) (F.faults files.new) (F.failed_path files.new) }
@@ -47,8 +68,8 @@ fn answer<F: Files>(alloc: Global, words: &[String], files: &mut F) -> Result<St
     let Some(file) = sim_file(words) else {
         return Err(Failure::BadWords);
     };
-    let scenario = read_scenario(alloc, files, file)?;
-    Ok(reference_text(alloc, scenario)?)
+    let setting = read_setting(alloc, files, file)?;
+    Ok(run_of(alloc, setting)?)
 }
 
 // Writes a line, and ends with the status where that doesn't fail.
@@ -69,11 +90,15 @@ pub fn command<F: Files, O: Sink, E: Sink>(
     out: &mut O,
     err: &mut E,
 ) -> Status
-    // 0: the text of the reference logs of the scenario that was read, and nothing on `err`.
-    ensures done { result ≡ Status.Done → (s : Scene)
-        × Reads (F.content files.old) (scenario_at (file_of (texts words.now.items))) (Ok s)
-        × ((text : List ℕ) × (IsReferenceText s text × Gains (O.written out.old) (O.written out.new) text))
+    // 0: the text of the logs of the run of what was read, which ends with no live federate, and nothing on `err`.
+    ensures done { result ≡ Status.Done → ((text : List ℕ)
+        × (IsRunText (F.content files.old) (texts words.now.items) false text × Gains (O.written out.old) (O.written out.new) text))
         × Gains (E.written err.old) (E.written err.new) [] }
+
+    // 8: the same of a run that ends with a live federate, which `err` tells.
+    ensures stuck { result ≡ Status.Stuck → ((text : List ℕ)
+        × (IsRunText (F.content files.old) (texts words.now.items) true text × Gains (O.written out.old) (O.written out.new) text))
+        × Gains (E.written err.old) (E.written err.new) (error_line stuck) }
 
     // 2: exactly where the words aren't `sim` and a file.
     ensures bad_words { result ≡ Status.BadWords → ¬ IsSim (texts words.now.items)
@@ -82,21 +107,21 @@ pub fn command<F: Files, O: Sink, E: Sink>(
 
     // 3: only where the files failed, at a path that is asked for; and that failure stands.
     ensures file_fault { result ≡ Status.FileFault → Rose (F.faults files.old) (F.faults files.new)
-        × AsksFor (F.content files.old) (scenario_at (file_of (texts words.now.items))) (F.failed_path files.new)
+        × AsksBy (F.content files.old) (texts words.now.items) (F.failed_path files.new)
         × Gains (E.written err.old) (E.written err.new) (error_line (cannot_read (F.failed_path files.new))) }
     ensures failed_files { F.faults files.old < F.faults files.new → Stands Status.FileFault result }
 
     // 4: the first refusal of what was read, by name.
     ensures refused { result ≡ Status.Refused → (r : Refusal)
-        × Reads (F.content files.old) (scenario_at (file_of (texts words.now.items))) (Err r)
+        × ReadsBy (F.content files.old) (texts words.now.items) (Err r)
         × Gains (E.written err.old) (E.written err.new) (error_line (refused r)) }
 
-    // 0 and 4, exactly: what the files tell decides.
+    // 0, 4 and 8, exactly: what the files tell decides.
     ensures told { IsSim (texts words.now.items)
-        → TellsAll (F.content files.old) (scenario_at (file_of (texts words.now.items)))
+        → TellsBy (F.content files.old) (texts words.now.items)
         → (end : Result Scene Refusal)
-        → Reads (F.content files.old) (scenario_at (file_of (texts words.now.items))) end
-        → result ≡ Status.FileFault ⊎ Stands (status_of end) result }
+        → ReadsBy (F.content files.old) (texts words.now.items) end
+        → result ≡ Status.FileFault ⊎ StandsBy end result }
 
     // 5: only where `out` or `err` failed, and before every other status.
     ensures sink_fault { result ≡ Status.SinkFault →
@@ -111,30 +136,33 @@ pub fn command<F: Files, O: Sink, E: Sink>(
         → Gains (E.written err.old) (E.written err.new) (error_line out_of_memory) }
 
     // Nothing is written to `out` but logs, and what the files hold stays.
-    ensures no_logs { result ≢ Status.Done → result ≢ Status.SinkFault
+    ensures no_logs { result ≢ Status.Done → result ≢ Status.Stuck → result ≢ Status.SinkFault
         → Gains (O.written out.old) (O.written out.new) [] }
-    ensures part_of_logs { result ≡ Status.SinkFault → Gains (O.written out.old) (O.written out.new) [] ⊎ ((s : Scene)
-        × Reads (F.content files.old) (scenario_at (file_of (texts words.now.items))) (Ok s)
-        × ((text : List ℕ) × (IsReferenceText s text × GainsPart (O.written out.old) (O.written out.new) text))) }
+    ensures part_of_logs { result ≡ Status.SinkFault → Gains (O.written out.old) (O.written out.new) []
+        ⊎ ((live : Bool) × ((text : List ℕ) × (IsRunText (F.content files.old) (texts words.now.items) live text
+        × (GainsPart (O.written out.old) (O.written out.new) text ⊎ ((live ≡ true) × Gains (O.written out.old) (O.written out.new) text))))) }
     ensures same_files { (path : List ℕ) → F.content files.new path ≡ F.content files.old path }
 
     // The others don't come.
     ensures later { ¬ IsLater result }
 
-    // Right words, files and sinks that don't fail and a scenario that isn't refused are run.
+    // Right words, files and sinks that don't fail and a setting that isn't refused are run.
     ensures complete { IsSim (texts words.now.items)
         → ¬ Rose (F.faults files.old) (F.faults files.new)
-        → ((r : Refusal) → ¬ Reads (F.content files.old) (scenario_at (file_of (texts words.now.items))) (Err r))
+        → ((r : Refusal) → ¬ ReadsBy (F.content files.old) (texts words.now.items) (Err r))
         → ¬ Rose (O.faults out.old) (O.faults out.new)
         → ¬ Rose (E.faults err.old) (E.faults err.new)
-        → (result ≡ Status.Done) ⊎ (result ≡ Status.OutOfMemory) }
+        → (result ≡ Status.Done) ⊎ (result ≡ Status.Stuck) ⊎ (result ≡ Status.OutOfMemory) }
 {
     match answer(alloc, words, files) {
-        Ok(text) => {
-            if write_all(out, text.as_bytes()).is_ok() {
-                return Status::Done;
+        Ok(run) => {
+            if write_all(out, run.text.as_bytes()).is_err() {
+                return tell(err, Status::SinkFault, CANNOT_WRITE);
             }
-            tell(err, Status::SinkFault, CANNOT_WRITE)
+            if run.is_live {
+                return tell(err, Status::Stuck, STUCK);
+            }
+            Status::Done
         }
         Err(Failure::BadWords) => tell(err, Status::BadWords, BAD_WORDS),
         Err(Failure::FileFault(path)) => match cannot_read_line(alloc, path.as_str()) {

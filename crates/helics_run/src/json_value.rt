@@ -2,7 +2,7 @@
 ghost use Rattle.std.specs.Prelude.{◌≡◌, ◌++◌, ◌≤◌, ℕ, Option, IfOk, IfSome, length, option_map};
 ghost use Rattle.serde_json.specs.Data.{Data};
 ghost use Rattle.serde_json.specs.View.{view, items_view};
-ghost use Rattle.helics_run.specs.Json.{json_of, has_keys, text_at, list_at, each, each_of_few};
+ghost use Rattle.helics_run.specs.Json.{json_of, has_keys, text_at, integer_at, number_at, list_at, list_if_at, count_at, each, each_of_few};
 
 use hel_lists::OutOfMemory;
 use serde_json::Value;
@@ -44,23 +44,57 @@ pub fn list_at<'a>(value: &'a Value, key: &str) -> Option<&'a Vec<Value>>
     value.get(key)?.as_array()
 }
 
-/// What a list may hold.
-pub trait Item: Sized {
-    // What a value says, if it is of the item's form.
-    ghost says: { Data → Option Self };
+/// The integer of 64 signed bits at a key of an object.
+pub fn integer_at(value: &Value, key: &str) -> Option<i64>
+    ensures { result ≡ integer_at key.now (view value.now) }
+{
+    value.get(key)?.as_i64()
+}
 
-    fn read(alloc: Global, value: &Value) -> Result<Option<Self>, OutOfMemory>
-        ensures { IfOk result (λ item. item ≡ says (view value.now)) };
+/// The integer of 64 bits without a sign at a key of an object.
+pub fn number_at(value: &Value, key: &str) -> Option<u64>
+    ensures { result ≡ number_at key.now (view value.now) }
+{
+    value.get(key)?.as_u64()
+}
+
+/// The list at a key of an object, and the empty one where there is no such key.
+pub fn list_if_at<'a>(value: &'a Value, key: &str) -> Option<&'a [Value]>
+    ensures { option_map (λ v. items_view v.now) result ≡ list_if_at key.now (view value.now) }
+{
+    match value.get(key) {
+        None => Some(&[]),
+        Some(list) => Some(list.as_array()?.as_slice()),
+    }
+}
+
+/// How often an object has a key: once or not at all.
+pub fn count_at(value: &Value, key: &str) -> usize
+    ensures { result ≡ count_at key.now (view value.now) }
+{
+    if value.get(key).is_some() { 1 } else { 0 }
+}
+
+/// How the items of a list are read.
+pub trait Form {
+    type Item: Drop;
+
+    // What a value says, if it is of this form.
+    ghost says: { Self → Data → Option Self.Item };
+
+    fn read(&self, alloc: Global, value: &Value) -> Result<Option<Self::Item>, OutOfMemory>
+        ensures { IfOk result (λ item. item ≡ says self.now (view value.now)) };
 }
 
 #[tactic(auto, using(crate::proofs::Counts::counts))]
 /// The items of a list of at most `most`, and none where one isn't of its form or there are more.
-pub fn each_of_few<T: Item + Drop>(
+pub fn each_of_few<F: Form>(
     alloc: Global,
     most: usize,
+    form: &F,
     list: &[Value],
-) -> Result<Option<Vec<T>>, OutOfMemory>
-    ensures said { IfOk result (λ items. option_map (λ v. v.items) items ≡ each_of_few most T.says (items_view list.now)) }
+) -> Result<Option<Vec<F::Item>>, OutOfMemory>
+    ensures said { IfOk result (λ items. option_map (λ v. v.items) items ≡ each_of_few most (F.says form.now) (items_view list.now)) }
     ensures few { IfOk result (λ items. IfSome items (λ v. length v.items ≤ most)) }
 {
     if list.len() > most {
@@ -68,7 +102,7 @@ pub fn each_of_few<T: Item + Drop>(
     }
     let mut found = Vec::new(alloc);
     for value in list {
-        match T::read(alloc, value)? {
+        match form.read(alloc, value)? {
             Some(item) => found.push(item)?,
             None => return Ok(None),
         }

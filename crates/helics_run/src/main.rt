@@ -6,6 +6,8 @@ mod failure;
 mod federate_file;
 mod json_value;
 mod log_text;
+mod names;
+mod participant;
 mod paths;
 mod reading;
 mod runner_file;

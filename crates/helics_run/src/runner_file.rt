@@ -1,18 +1,20 @@
 //! The runner file (docs/FORMATS.md, Runner file).
-ghost use Rattle.std.specs.Prelude.{◌≡◌, ◌≤◌, ℕ, IfOk, length, option_map};
+ghost use Rattle.std.specs.Prelude.{◌≡◌, ◌≤◌, ℕ, IfOk, IfSome, length, map, option_map};
 ghost use Rattle.std.specs.List.{list_all};
 ghost use Rattle.serde_json.specs.View.{view};
 ghost use Rattle.helics_run.specs.Json.{json_of};
-ghost use Rattle.helics_run.specs.RunnerFile.{most_federates, is_alphanumeric, is_name, is_plain, config_of, entry_seen, entry_of, entries_in_value, entries_of};
+ghost use Rattle.helics_run.specs.RunnerFile.{most_federates, is_alphanumeric, is_name, is_plain, config_of, entry_seen, entry_of, if_different, entries_in_value, entries_of};
+ghost use Rattle.helics_run.specs.Names.{are_different};
 ghost use Rattle.helics_run.specs.Form.{GivesForm};
 
 use crate::failure::{RefusalName, Unread};
-use crate::json_value::{self, Item};
-use hel_lists::{OutOfMemory, Text};
+use crate::json_value::{self, Form};
+use crate::names::Names;
+use hel_lists::{Copied, Items, OutOfMemory, Text};
 use serde_json::Value;
 use std::alloc::Global;
 
-const MOST_FEDERATES: usize = 1;
+const MOST_FEDERATES: usize = 512;
 
 /// An entry of a runner file.
 #[derive(Debug, Drop)]
@@ -31,7 +33,8 @@ fn all_alphanumeric(bytes: &[u8]) -> bool
         .all(|&c| matches!(c, b'0'..=b'9' | b'A'..=b'Z' | b'a'..=b'z'))
 }
 
-fn is_name(name: &str) -> bool
+/// Whether it has 1 to 255 letters and digits.
+pub fn is_name(name: &str) -> bool
     ensures { result ≡ is_name name.now }
 {
     !name.is_empty() && name.len() <= 255 && all_alphanumeric(name.as_bytes())
@@ -73,18 +76,46 @@ fn entry_texts(value: &Value) -> Option<(&str, &str)>
     }
 }
 
-impl Item for Entry {
-    ghost use Rattle.helics_run.specs.RunnerFile.{most_federates, entry_of};
+// The form of an entry.
+struct EntryForm;
 
-    ghost says = { entry_of };
+impl Form for EntryForm {
+    ghost use Rattle.helics_run.specs.RunnerFile.{entry_of};
 
-    fn read(alloc: Global, value: &Value) -> Result<Option<Self>, OutOfMemory> {
+    type Item = Entry;
+
+    ghost says = { λ form. entry_of };
+
+    fn read(&self, alloc: Global, value: &Value) -> Result<Option<Entry>, OutOfMemory> {
         let Some((name, config)) = entry_texts(value) else {
             return Ok(None);
         };
         let name = Text::from_str(alloc, name)?;
         let config = Text::from_str(alloc, config)?;
         Ok(Some(Entry { name, config }))
+    }
+}
+
+/// The names of entries.
+pub fn names_of(alloc: Global, entries: &[Entry]) -> Result<Items<Text>, OutOfMemory>
+    ensures { IfOk result (λ names. names ≡ map (λ e. e.name) entries.now) }
+{
+    let mut names = Items::new(alloc);
+    for entry in entries {
+        names.push(entry.name.copy(alloc)?)?;
+    }
+    Ok(names)
+}
+
+// The entries, and none where two have one name.
+fn if_different(alloc: Global, entries: Vec<Entry>) -> Result<Option<Vec<Entry>>, OutOfMemory>
+    ensures said { IfOk result (λ kept. option_map (λ v. v.items) kept ≡ if_different entries.items) }
+    ensures few { IfOk result (λ kept. IfSome kept (λ v. v.items ≡ entries.items)) }
+{
+    let names = names_of(alloc, &entries)?;
+    match Names::of(alloc, names.as_slice())? {
+        Some(_) => Ok(Some(entries)),
+        None => Ok(None),
     }
 }
 
@@ -114,7 +145,10 @@ fn entries_in(alloc: Global, value: &Value) -> Result<Vec<Entry>, Unread>
     if list.is_empty() {
         return Err(Unread::Refused(RefusalName::NoFederates));
     }
-    match json_value::each_of_few(alloc, MOST_FEDERATES, list)? {
+    let Some(entries) = json_value::each_of_few(alloc, MOST_FEDERATES, &EntryForm, list)? else {
+        return Err(Unread::Refused(RefusalName::NotBuilt));
+    };
+    match if_different(alloc, entries)? {
         Some(entries) => Ok(entries),
         None => Err(Unread::Refused(RefusalName::NotBuilt)),
     }

@@ -7,7 +7,7 @@ use Rattle.helics_run.proofs.json_value.each_of_few.Given as goal
 abbrev pub invariant-loop-value : goal.invariant-loop-value
 invariant-loop-value g l =
     record {
-      said : option_map (λ xs. l.found.items ++ xs) (each g.T.Item.says (items_view (drop l.value-index l.list)))
-          ≡ each g.T.Item.says (items_view l.list);
+      said : option_map (λ xs. l.found.items ++ xs) (each (g.F.Form.says l.form) (items_view (drop l.value-index l.list)))
+          ≡ each (g.F.Form.says l.form) (items_view l.list);
       count : vec_len l.found ≡ l.value-index;
     }

@@ -6,5 +6,5 @@ use Rattle.helics_run.proofs.log_text.write_entries.Given as goal
 -- what is written so far and the text of the other entries are the text of all
 abbrev pub invariant-loop-entry : goal.invariant-loop-entry
 invariant-loop-entry l =
-    string_bytes l.out ++ flat_map entry_text (drop l.entry-index l.entries)
-    ≡ string_bytes l.fn.out ++ flat_map entry_text l.entries
+    string_bytes l.out ++ flat_map (entry_text l.federates) (drop l.entry-index l.entries)
+    ≡ string_bytes l.fn.out ++ flat_map (entry_text l.federates) l.entries
