@@ -203,6 +203,7 @@ module _ (feds : List FederateRecord) where
           or_left (list_any (sends (endpoint_of feds) feds rerouted a f) (endpoints feds)) _
           (any_to (sends (endpoint_of feds) feds rerouted a f) (endpoints feds) e listed
           (and_from (nat_eq a e.ref.fed) _ from (ap (λ (o : Option EndRef). sends_to (endpoint_of feds) feds o e.item f) is ∙ to)))
+
       go : (e x : Interface EndRecord) → IsIn e (endpoints feds) → IsIn x (endpoints feds) → nat_eq a e.ref.fed ≡ true → nat_eq f x.ref.fed ≡ true → (o : Option EndRef) → rerouted e.ref ≡ o →
           reaches_by (endpoint_of feds) (rerouted e.ref) e x ≡ true →
           (list_any (sends (endpoint_of feds) feds rerouted a f) (endpoints feds) || list_any (hears (endpoint_of feds) rerouted a f) (endpoints feds)) ≡ true
@@ -235,6 +236,7 @@ module _ (feds : List FederateRecord) where
           not_not : (b : Bool) → not b ≡ true → b ≡ false
           not_not true h = absurd (true≢false (sym h))
           not_not false h = refl
+
           at_free : e.item.targeted ≡ false → sends_to (endpoint_of feds) feds None e.item f ≡ true
           at_free free = ap (λ (b : Bool). if b then name_fed (endpoint_of feds) e.item.destination_targets f else has_endpoint feds f) free ∙ has_some feds f x listed' to
 
@@ -263,16 +265,16 @@ joined_are feds pubs ends last l m n o accepted p e r none first second third =
     let ends_are : ends ≡ endpoint_of feds = same_meaning ends (endpoint_of feds) e in
     let last_is : last ≡ rerouted feds = same_meaning last (rerouted feds) r in
     let each : (a f : ℕ) → o a f ≡ depends feds a f = λ a f.
-        third a f
-        ∙ ap (λ (b : Bool). b || list_any (hears ends last a f) (endpoints feds)) (second a f
-        ∙ ap (λ (b : Bool). b || list_any (sends ends feds last a f) (endpoints feds)) (first a f
-        ∙ ap (λ (b : Bool). b || list_any (takes pubs a f) (inputs feds)) (none a f)
-        ∙ ap (λ (means : List ℕ → Option EndRef). list_any (takes means a f) (inputs feds)) pubs_are)
-        ∙ ap (λ (means : List ℕ → Option EndRef). by_value feds a f || list_any (sends means feds last a f) (endpoints feds)) ends_are
-        ∙ ap (λ (ending : EndRef → Option EndRef). by_value feds a f || list_any (sends (endpoint_of feds) feds ending a f) (endpoints feds)) last_is)
-        ∙ ap (λ (means : List ℕ → Option EndRef). (by_value feds a f || list_any (sends (endpoint_of feds) feds (rerouted feds) a f) (endpoints feds)) || list_any (hears means last a f) (endpoints feds)) ends_are
-        ∙ ap (λ (ending : EndRef → Option EndRef). (by_value feds a f || list_any (sends (endpoint_of feds) feds (rerouted feds) a f) (endpoints feds)) || list_any (hears (endpoint_of feds) ending a f) (endpoints feds)) last_is
-        ∙ links_are feds accepted a f
+    third a f
+    ∙ ap (λ (b : Bool). b || list_any (hears ends last a f) (endpoints feds)) (second a f
+    ∙ ap (λ (b : Bool). b || list_any (sends ends feds last a f) (endpoints feds)) (first a f
+    ∙ ap (λ (b : Bool). b || list_any (takes pubs a f) (inputs feds)) (none a f)
+    ∙ ap (λ (means : List ℕ → Option EndRef). list_any (takes means a f) (inputs feds)) pubs_are)
+    ∙ ap (λ (means : List ℕ → Option EndRef). by_value feds a f || list_any (sends means feds last a f) (endpoints feds)) ends_are
+    ∙ ap (λ (ending : EndRef → Option EndRef). by_value feds a f || list_any (sends (endpoint_of feds) feds ending a f) (endpoints feds)) last_is)
+    ∙ ap (λ (means : List ℕ → Option EndRef). (by_value feds a f || list_any (sends (endpoint_of feds) feds (rerouted feds) a f) (endpoints feds)) || list_any (hears means last a f) (endpoints feds)) ends_are
+    ∙ ap (λ (ending : EndRef → Option EndRef). (by_value feds a f || list_any (sends (endpoint_of feds) feds (rerouted feds) a f) (endpoints feds)) || list_any (hears (endpoint_of feds) ending a f) (endpoints feds)) last_is
+    ∙ links_are feds accepted a f
     in same_meaning o (depends feds) (λ a. same_meaning (o a) (depends feds a) (each a))
 
 -- ancestors along those links
