@@ -3,8 +3,8 @@
 
 Run it at any place: `python3 bench/shapes.py`. It needs the built program (`./helics_run` builds it). An event is
 a grant or an item that is handed over. It prints seconds of the processor (the least of several runs), peak memory,
-nanoseconds an event, and the exponents of growth in federates and in steps. It ends with status 1 where the
-exponent in steps passes its limit.
+nanoseconds an event, and the exponents of growth in federates and in steps. A peak of some 20 MiB is that of the
+Python process before it became the program. It ends with status 1 where the exponent in steps passes its limit.
 """
 import json
 import pathlib
@@ -13,10 +13,10 @@ import tempfile
 
 from measured import PROGRAM, exponent, sim
 
-FEDERATES = (8, 32, 128)
-STEPS = (250, 1000, 4000)
-FEW_FEDERATES = FEDERATES[0]  # while the steps grow
-FEW_STEPS = 100  # while the federates grow
+FEDERATES = (32, 128, 512)
+STEPS = (1000, 4000, 16000)
+FEW_FEDERATES = 8  # while the steps grow
+FEW_STEPS = 40  # while the federates grow
 RUNS = 3
 EXPONENT_LIMIT = 1.2  # in steps
 FAR = {"do": "request", "time": "1000000000ns"}
