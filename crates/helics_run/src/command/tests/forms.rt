@@ -1,4 +1,4 @@
-use super::{ALONE, Call, FEDERATE, PAIR, expect_of};
+use super::{ALONE, FEDERATE, PAIR, expect_of};
 use crate::status::Status;
 use std::test::Fail;
 
@@ -44,24 +44,6 @@ fn forms_of_runner_files(rt: HostRuntime) -> Result<(), Fail> {
     let none = [("run.json", r#"{"federates":[]}"#)];
     let err = "helics_run: refused: NoFederates: run.json\n";
     expect_of(&rt, rt.alloc(), &none, Status::Refused, "", err)?;
-    Ok(())
-}
-
-// Bytes that aren't UTF-8, and a byte order mark.
-#[test]
-fn bytes_that_are_no_text(rt: HostRuntime) -> Result<(), Fail> {
-    let mut marked = Vec::from_slice(rt.alloc(), b"\xef\xbb\xbf")?;
-    marked.extend_from_slice(ALONE.as_bytes())?;
-    let table = [
-        b"\xff".as_slice(),
-        b"{\"federates\":[\"\xc3\"]}",
-        marked.as_slice(),
-    ];
-    let err = "helics_run: refused: NotBuilt: run.json\n";
-    for runner in table {
-        let files = [("run.json", runner), ("a.json", FEDERATE.as_bytes())];
-        Call::new("sim run.json", &files).expect(&rt, rt.alloc(), Status::Refused, "", err)?;
-    }
     Ok(())
 }
 
