@@ -1,4 +1,4 @@
-ghost use Rattle.std.specs.Prelude.{◌≡◌, ◌≤◌, ◌↔◌, true, false, List, [], length, filter, count_by, insert, take, IsTrue, IsNone, IfOk, IfErr, IfSome, OnOk, OnErr, option_copied};
+ghost use Rattle.std.specs.Prelude.{◌≡◌, ◌≤◌, ◌↔◌, true, false, List, [], length, filter, count_by, insert, take, IsTrue, IsNone, IsOk, IfOk, IfErr, IfSome, OnOk, OnErr, option_copied};
 ghost use Rattle.hel_lists.specs.Members.{IsIn, Each};
 ghost use Rattle.std.specs.Option.{ForSome};
 ghost use Rattle.helics_time.specs.Stamp.{IsDue, at_most};
@@ -95,9 +95,10 @@ impl DueQueue {
         self.items.is_empty()
     }
 
-    /// Copies of the items that are due by the cut, in order.
+    /// Copies of the items that are due by the cut, in order. It takes no memory where none is.
     pub fn due_copies(&self, cut: Stamp) -> Result<Items<Item>, OutOfMemory>
-        ensures { IfOk result (λ copies. copies ≡ filter (is_due cut) self.now) }
+        ensures copies { IfOk result (λ copies. copies ≡ filter (is_due cut) self.now) }
+        ensures none_due { filter (is_due cut) self.now ≡ [] → IsOk result }
     {
         copies_of_first(&self.items, due_count(&self.items, &cut))
     }
@@ -140,7 +141,8 @@ fn due_count(items: &VecDeque<Item>, cut: &Stamp) -> usize
 }
 
 fn copies_of_first(items: &VecDeque<Item>, count: usize) -> Result<Items<Item>, OutOfMemory>
-    ensures { IfOk result (λ copies. copies ≡ take count items.now.items) }
+    ensures copies { IfOk result (λ copies. copies ≡ take count items.now.items) }
+    ensures none { take count items.now.items ≡ [] → IsOk result }
 {
     let alloc = *items.allocator();
     let mut copies = Items::new(alloc);

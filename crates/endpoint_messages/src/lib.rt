@@ -45,11 +45,12 @@ impl Inbox {
         }
     }
 
-    /// Makes room for this many letters more.
+    /// Makes room for this many letters more: it takes memory only where there is too little room.
     pub fn make_room(&mut self, n: usize) -> Result<(), OutOfMemory>
         ensures ok { OnOk result (n ≤ self.new.spare) }
         ensures spare { self.old.spare ≤ self.new.spare }
         ensures letters { self.new.letters ≡ self.old.letters }
+        ensures full { OnErr result (self.old.spare < n) }
     {
         self.letters.reserve(n)?;
         Ok(())
