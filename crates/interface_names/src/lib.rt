@@ -5,8 +5,6 @@ mod laws;
 mod names;
 mod records;
 mod registry;
-#[cfg(test)]
-mod tests;
 
 pub use laws::registry_laws;
 pub use names::{GlobalName, InterfaceKind, NAME_LIMIT, global_name};

@@ -1,8 +1,11 @@
-use super::*;
 use InterfaceKind::{Endpoint, Filter, Input, Publication};
 use hel_lists::{Copied, Items, Text};
 use hel_values::ValueKind;
 use helics_time::Settings;
+use interface_names::{
+    EndRecord, FEDERATE_LIMIT, FederateRecord, FilterKind, FilterRecord, INTERFACE_LIMIT,
+    InputRecord, InterfaceKind, NAME_LIMIT, PubRecord, Registry, RegistryRefusal, global_name,
+};
 use std::alloc::Global;
 use std::test::Fail;
 
