@@ -1,5 +1,5 @@
 -- Lists that are changed from their front on.
-use Rattle.std.proofs.Common.{ℕ, zero, suc, ◌<◌, ◌≡◌, refl, ap, List, [], ◌∷◌, ◌++◌, map, length, get_or, arith, Some}
+use Rattle.std.proofs.Common.{ℕ, zero, suc, ◌<◌, ◌≡◌, refl, ap, List, [], ◌∷◌, ◌++◌, map, length, get_or, drop, arith, Some}
 use Rattle.std.specs.Prelude.{slice_set, slice_get}
 use Rattle.std.proofs.lemmas.Option.{none-some}
 
@@ -29,3 +29,9 @@ changed_length f (suc n) (x ∷ xs) = ap suc (changed_length f n xs)
 pub first_append : {A : Type 0} (xs ys : List A) (x : A) → slice_get xs 0 ≡ Some x → slice_get (xs ++ ys) 0 ≡ Some x
 first_append [] ys x is = absurd (none-some x is)
 first_append (y ∷ xs) ys x is = is
+
+-- what stands first behind a place stands at it
+pub first_behind : {A : Type 0} (n : ℕ) (xs : List A) → slice_get (drop n xs) 0 ≡ slice_get xs n
+first_behind zero xs = refl
+first_behind (suc n) [] = refl
+first_behind (suc n) (x ∷ xs) = first_behind n xs

@@ -1,5 +1,5 @@
 -- What is left of a script once an action has passed.
-use Rattle.std.proofs.Common.{ℕ, zero, suc, ◌≡◌, refl, ap, sym, ◌∙◌, arith, true, inl, inr, List, [], ◌∷◌, ◌++◌, drop, Some, None}
+use Rattle.std.proofs.Common.{ℕ, zero, suc, ◌≡◌, refl, ap, sym, ◌∙◌, arith, true, false, inl, inr, List, [], ◌∷◌, ◌++◌, drop, Some, None}
 use Rattle.std.specs.Prelude.{find, slice_get, unwrap_or}
 use Rattle.std.proofs.lemmas.Bool.{cases_Bool}
 use Rattle.std.proofs.lemmas.Option.{none-some, same_Some}
@@ -10,7 +10,7 @@ use Rattle.fed_script.specs.declared.word.Word.TheVariants.{Publish, PublishSum,
 use Rattle.endpoint_messages.specs.declared.Letter.{Letter}
 use Rattle.fed_script.specs.Round.{copies}
 use Rattle.fed_script.specs.View.{Sight, letters_at}
-use Rattle.fed_script.specs.Script.{IsInitial, HasTime, NamesTime, KeepTimes, action_of, echo_of, gives, given_from, first_action, next_action, behind, behind_first, words_after}
+use Rattle.fed_script.specs.Script.{IsInitial, HasTime, NamesTime, KeepTimes, action_of, echo_of, gives, given_from, first_action, next_action, behind, behind_first, words_after, is_echo, echo_first, answers}
 
 pub is_initial_after : (actions : List Action) → IsInitial actions → IsInitial (drop 1 actions)
 is_initial_after [] is = tt
@@ -46,6 +46,19 @@ next_some words v word some = go (given_from words v) some where
   go : (given : List Word) → slice_get given 0 ≡ Some word → first_action given v ≡ unwrap_or (action_of v word) finishes
   go [] is = absurd (none-some word is)
   go (w ∷ given) is = ap (λ x. unwrap_or (action_of v x) finishes) (same_Some w word is)
+
+-- the next action answers a letter where the first word that gives something is an echo
+pub answers_none : (words : List Word) (v : Sight) → slice_get (given_from words v) 0 ≡ None → answers words v ≡ false
+answers_none words v none = go (given_from words v) none where
+  go : (given : List Word) → slice_get given 0 ≡ None → echo_first given ≡ false
+  go [] is = refl
+  go (word ∷ given) is = absurd (none-some word (sym is))
+
+pub answers_some : (words : List Word) (v : Sight) (word : Word) → slice_get (given_from words v) 0 ≡ Some word → answers words v ≡ is_echo word
+answers_some words v word some = go (given_from words v) some where
+  go : (given : List Word) → slice_get given 0 ≡ Some word → echo_first given ≡ is_echo word
+  go [] is = absurd (none-some word is)
+  go (w ∷ given) is = ap is_echo (same_Some w word is)
 
 -- what comes of words that keep times
 pub given_keep_times : (words : List Word) (v : Sight) → KeepTimes words → KeepTimes (given_from words v)

@@ -1,5 +1,5 @@
 -- What a script gives over what its federate sees.
-use Rattle.std.specs.Prelude.{ℕ, ◌+◌, ◌≤◌, min, ◌+ℤ◌, Bool, if◌then◌else◌, Option, Some, None, is_some, unwrap_or, List, [], ◌∷◌}
+use Rattle.std.specs.Prelude.{ℕ, ◌+◌, ◌≤◌, min, ◌+ℤ◌, Bool, true, false, if◌then◌else◌, Option, Some, None, is_some, unwrap_or, List, [], ◌∷◌}
 use Rattle.std.specs.Int.{w64, saturate_signed}
 use Rattle.helics_time.specs.Time.{max_time}
 use Rattle.hel_values.specs.declared.Value.TheVariants.{Int}
@@ -77,6 +77,18 @@ seen_after v words = v
 -- what is seen then
 abbrev pub view_after : List Word → Sight → Sight
 view_after words v = seen_after v (given_from words v)
+
+abbrev pub is_echo : Word → Bool
+is_echo (Echo endpoint) = true
+is_echo word = false
+
+abbrev pub echo_first : List Word → Bool
+echo_first [] = false
+echo_first (word ∷ words) = is_echo word
+
+-- what a script with these words left gives next is the answer to a letter
+abbrev pub answers : List Word → Sight → Bool
+answers words v = echo_first (given_from words v)
 
 -- before a federate enters, it publishes and sends
 abbrev pub IsInitial : List Action → Type 0

@@ -7,8 +7,6 @@ mod laws;
 mod names;
 mod rounds;
 mod script;
-#[cfg(test)]
-mod tests;
 mod view;
 mod word;
 mod words;

@@ -1,7 +1,7 @@
-ghost use Rattle.std.specs.Prelude.{◌≡◌, IfOk, drop, find, slice_get};
+ghost use Rattle.std.specs.Prelude.{◌≡◌, [], None, Ok, IfOk, drop, find, slice_get};
 ghost use Rattle.std.specs.Option.{option_copied};
 ghost use Rattle.fed_script.specs.Round.{left_of};
-ghost use Rattle.fed_script.specs.Script.{IsInitial, IsCourse, HasTime, gives, given_from, next_action, behind_first, seen_after, words_after, view_after};
+ghost use Rattle.fed_script.specs.Script.{IsInitial, IsCourse, HasTime, gives, given_from, next_action, behind_first, seen_after, words_after, view_after, answers};
 
 use crate::rounds::Rounds;
 use crate::{Action, View, Word, Words};
@@ -44,9 +44,11 @@ impl Script {
         }
     }
 
-    /// The next action before the federate enters: `None` exactly where none is left.
+    /// The next action before the federate enters: `None` exactly where none is left, which takes
+    /// no memory.
     pub fn initial(&self, alloc: Global) -> Result<Option<Action>, OutOfMemory>
         ensures value { IfOk result (λ action. action ≡ slice_get self.now.initial 0) }
+        ensures none { self.now.initial ≡ [] → result ≡ Ok None }
         ensures rules { IsCourse self.now }
     {
         match self.initial.get(self.initial_place) {
@@ -73,6 +75,16 @@ impl Script {
         match first_given(&self.rounds, view) {
             None => Ok(Action::Finish),
             Some(word) => Ok(word.action(alloc, view)?.unwrap_or(Action::Finish)),
+        }
+    }
+
+    /// Whether the next action of the federate that has entered is an echo's answer to a letter.
+    pub fn answers(&self, view: &View) -> bool
+        ensures { result ≡ answers self.now.words view.now }
+    {
+        match first_given(&self.rounds, view) {
+            None => false,
+            Some(word) => word.is_echo(),
         }
     }
 

@@ -1,7 +1,7 @@
 ghost use Rattle.std.specs.Prelude.{◌≡◌, IfOk, is_some};
 ghost use Rattle.std.specs.Bool.{then_some};
 ghost use Rattle.std.specs.Option.{option_copied};
-ghost use Rattle.fed_script.specs.Script.{action_of, answer_to, gives};
+ghost use Rattle.fed_script.specs.Script.{action_of, answer_to, gives, is_echo};
 
 use crate::{Action, View};
 use endpoint_messages::Letter;
@@ -56,6 +56,12 @@ impl Word {
             Word::Echo(endpoint) => view.oldest(*endpoint).is_some(),
             _ => true,
         }
+    }
+
+    pub(crate) fn is_echo(&self) -> bool
+        ensures { result ≡ is_echo self.now }
+    {
+        matches!(self, Word::Echo(_))
     }
 
     /// The word, where it gives something over a view.

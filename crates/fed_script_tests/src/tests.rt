@@ -1,7 +1,7 @@
 ghost use Rattle.std.specs.Prelude.{◌≡◌, ◌≤◌};
 
-use crate::{Action, EndpointNames, Script, View, Word, Words};
 use due_queue::{Content, Item, Message};
+use fed_script::{Action, EndpointNames, Script, View, Word, Words};
 use hel_lists::{Copied, Items, OutOfMemory, Text};
 use hel_values::{EndRef, Payload, TextValue, Value};
 use helics_time::{MAX, Stamp};
@@ -81,6 +81,23 @@ fn message(alloc: Global, fed: u16, endpoint: u16, byte: u8) -> Result<Content, 
     }))
 }
 
+// Sums over four inputs, from one next to an end of 64 bits to none at all, and times up to the last.
+fn sums_and_times(alloc: Global) -> Result<Words, Fail> {
+    let mut words = Words::new(alloc);
+    for (input, add) in [(0, 1), (1, -2), (2, 4), (3, -5), (4, 6), (0, -7)] {
+        words.push(Word::PublishSum {
+            publication: input,
+            input,
+            add,
+        })?;
+    }
+    words.push(Word::Advance(0))?;
+    words.push(Word::Advance(7))?;
+    words.push(Word::Advance(8))?;
+    words.push(Word::Advance(MAX))?;
+    Ok(words)
+}
+
 #[test]
 fn sums_and_times_stop_at_their_ends(rt: HostRuntime) -> Result<(), Fail> {
     let text = TextValue::of(String::from_str(rt.alloc(), "9")?)
@@ -92,40 +109,24 @@ fn sums_and_times_stop_at_their_ends(rt: HostRuntime) -> Result<(), Fail> {
         item(2, value(2, Value::Text(text))),
         item(3, value(0, Value::Int(i64::MAX))),
     ];
-    let mut words = Words::new(rt.alloc());
-    for (input, add) in [(0, 1), (1, -2), (2, 4), (3, -5), (4, 6), (0, -7)] {
-        words.push(Word::PublishSum {
-            publication: input,
-            input,
-            add,
-        })?;
-    }
-    for by in [0, 7, 8, MAX] {
-        words.push(Word::Advance(by))?;
-    }
     let mut view = View::new(rt.alloc(), 4, 0)?;
     view.take_over(rt.alloc(), &Numbers, MAX - 7, &items)?;
-    let mut script = script_of(rt.alloc(), words);
-    assert_gives(
-        &rt,
-        rt.alloc(),
-        &mut script,
-        &mut view,
-        &[
-            "Publish { publication: 0, value: Int(9223372036854775807) }",
-            "Publish { publication: 1, value: Int(-9223372036854775808) }",
-            "Publish { publication: 2, value: Int(4) }",
-            "Publish { publication: 3, value: Int(-5) }",
-            "Publish { publication: 4, value: Int(6) }",
-            "Publish { publication: 0, value: Int(9223372036854775800) }",
-            "Request { time: 9223372036854775800, mode: Next }",
-            "Request { time: 9223372036854775807, mode: Next }",
-            "Request { time: 9223372036854775807, mode: Next }",
-            "Request { time: 9223372036854775807, mode: Next }",
-            "Finish",
-            "Finish",
-        ],
-    )
+    let mut script = script_of(rt.alloc(), sums_and_times(rt.alloc())?);
+    let wants = [
+        "Publish { publication: 0, value: Int(9223372036854775807) }",
+        "Publish { publication: 1, value: Int(-9223372036854775808) }",
+        "Publish { publication: 2, value: Int(4) }",
+        "Publish { publication: 3, value: Int(-5) }",
+        "Publish { publication: 4, value: Int(6) }",
+        "Publish { publication: 0, value: Int(9223372036854775800) }",
+        "Request { time: 9223372036854775800, mode: Next }",
+        "Request { time: 9223372036854775807, mode: Next }",
+        "Request { time: 9223372036854775807, mode: Next }",
+        "Request { time: 9223372036854775807, mode: Next }",
+        "Finish",
+        "Finish",
+    ];
+    assert_gives(&rt, rt.alloc(), &mut script, &mut view, &wants)
 }
 
 // A grant hands over messages, each of a federate for an endpoint, with a byte.
@@ -170,7 +171,10 @@ fn an_echo_answers_each_letter(rt: HostRuntime) -> Result<(), Fail> {
         "Finish",
         "Finish",
     ];
-    assert_gives(&rt, rt.alloc(), &mut script, &mut view, &answers)
+    assert!(rt; script.answers(&view));
+    assert_gives(&rt, rt.alloc(), &mut script, &mut view, &answers)?;
+    assert!(rt; !script.answers(&view));
+    Ok(())
 }
 
 // So many repeats round a body, one round another.
