@@ -41,7 +41,7 @@ last_in (x ∷ xs) r is = go x xs (let same : last_of x xs ≡ r = cc in same)
     go x (y ∷ ys) same = inr (go y ys same)
 
 -- a member of what a test gives comes from a member
-from_member : {A B : Type 0} (h : A → Option B) (xs : List A) (y : B) → IsIn y (filter_map h xs) → (x : A) × IsIn x xs × (h x ≡ Some y)
+pub from_member : {A B : Type 0} (h : A → Option B) (xs : List A) (y : B) → IsIn y (filter_map h xs) → (x : A) × IsIn x xs × (h x ≡ Some y)
 from_member h [] y among = absurd among
 from_member {A} {B} h (x ∷ xs) y among = go (h x) refl (from_member h xs y) among
   where
@@ -54,7 +54,7 @@ from_member {A} {B} h (x ∷ xs) y among = go (h x) refl (from_member h xs y) am
     ]
 
 -- a filter that reroutes does so to an endpoint
-reroute_known : (feds : List FederateRecord) (kind : FilterKind) (r : EndRef) → reroute_refusal (endpoint_of feds) kind ≡ None → reroute_of (filter_of (endpoint_of feds) kind) ≡ Some r → IsEndpoint feds r
+pub reroute_known : (feds : List FederateRecord) (kind : FilterKind) (r : EndRef) → reroute_refusal (endpoint_of feds) kind ≡ None → reroute_of (filter_of (endpoint_of feds) kind) ≡ Some r → IsEndpoint feds r
 reroute_known feds (Delay delay) r none is = absurd (cc)
 reroute_known feds (Drop per_million seed) r none is = absurd (cc)
 reroute_known feds (Reroute name) r none is = go (endpoint_of feds name) refl none is
@@ -86,7 +86,7 @@ has_some feds f x listed same =
     lt-ltb 0 (length (federate_at feds f).endpoints) (omega arith)
 
 -- a name that means an endpoint of f
-from_name : (m : List ℕ → Option EndRef) (names : List (List ℕ)) (f : ℕ) → name_fed m names f ≡ true → (name : List ℕ) × (q : EndRef) × IsIn name names × (m name ≡ Some q) × (nat_eq f q.fed ≡ true)
+pub from_name : (m : List ℕ → Option EndRef) (names : List (List ℕ)) (f : ℕ) → name_fed m names f ≡ true → (name : List ℕ) × (q : EndRef) × IsIn name names × (m name ≡ Some q) × (nat_eq f q.fed ≡ true)
 from_name m names f holds =
     let one = any_from (λ (name : List ℕ). is_of f (m name)) names holds in
     go one.0 one.1 (m one.0) refl one.2
@@ -96,7 +96,7 @@ from_name m names f holds =
     go name listed (Some q) means holds' = (name, q, listed, means, holds')
 
 -- a name that means this reference
-from_ref : (m : List ℕ → Option EndRef) (names : List (List ℕ)) (r : EndRef) → name_ref m names r ≡ true → (name : List ℕ) × IsIn name names × (m name ≡ Some r)
+pub from_ref : (m : List ℕ → Option EndRef) (names : List (List ℕ)) (r : EndRef) → name_ref m names r ≡ true → (name : List ℕ) × IsIn name names × (m name ≡ Some r)
 from_ref m names r holds =
     let one = any_from (λ (name : List ℕ). is_ref r (m name)) names holds in
     (one.0, one.1, go (m one.0) one.2)
@@ -108,7 +108,7 @@ from_ref m names r holds =
 to_ref : (m : List ℕ → Option EndRef) (names : List (List ℕ)) (name : List ℕ) (r : EndRef) → IsIn name names → m name ≡ Some r → name_ref m names r ≡ true
 to_ref m names name r listed means = any_to (λ (n : List ℕ). is_ref r (m n)) names name listed (ap (is_ref r) means ∙ same_itself r)
 
-to_fed : (m : List ℕ → Option EndRef) (names : List (List ℕ)) (name : List ℕ) (r : EndRef) (f : ℕ) → IsIn name names → m name ≡ Some r → nat_eq f r.fed ≡ true → name_fed m names f ≡ true
+pub to_fed : (m : List ℕ → Option EndRef) (names : List (List ℕ)) (name : List ℕ) (r : EndRef) (f : ℕ) → IsIn name names → m name ≡ Some r → nat_eq f r.fed ≡ true → name_fed m names f ≡ true
 to_fed m names name r f listed means same = any_to (λ (n : List ℕ). is_of f (m n)) names name listed (ap (is_of f) means ∙ same)
 
 -- three tests, of which one holds
@@ -141,7 +141,7 @@ module _ (feds : List FederateRecord) where
   rerouted e = last_reroute (source_chain feds e)
 
   -- a pair that makes a dependency by a message
-  reached : (a f : ℕ) (e x : Interface EndRecord) → IsIn e (endpoints feds) → IsIn x (endpoints feds) → nat_eq a e.ref.fed ≡ true → nat_eq f x.ref.fed ≡ true → reaches feds e x ≡ true →
+  pub reached : (a f : ℕ) (e x : Interface EndRecord) → IsIn e (endpoints feds) → IsIn x (endpoints feds) → nat_eq a e.ref.fed ≡ true → nat_eq f x.ref.fed ≡ true → reaches feds e x ≡ true →
       by_message feds a f ≡ true
   reached a f e x listed listed' from to holds =
       any_to (λ (e : Interface EndRecord). nat_eq a e.ref.fed && list_any (λ x. nat_eq f x.ref.fed && reaches feds e x) (endpoints feds)) (endpoints feds) e listed

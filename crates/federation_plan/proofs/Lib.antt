@@ -2,6 +2,7 @@ pub mod Accepted
 pub mod Attached
 pub mod Depending
 pub mod Drafts
+pub mod Filtering
 pub mod Firsts
 pub mod Joined
 pub mod Lists
@@ -9,3 +10,7 @@ pub mod Named
 pub mod Places
 pub mod Registries
 pub mod Reroutes
+pub mod Sent
+pub mod Trees
+pub mod Waiting
+pub mod Wired

@@ -1,8 +1,8 @@
 -- Lists and their members.
 use Rattle.std.proofs.Common.{◌≡◌, ◌⊎◌, inl, inr, ℕ, zero, suc, ◌+◌, ◌<◌, ◌≤◌, List, [], ◌∷◌, ◌++◌, length, get_or, take, take_all, arith, refl, sym, ◌∙◌, ap, subst, Bool, true, false}
 use Rattle.std.specs.List.{list_any}
-use Rattle.std.proofs.lemmas.Bool.{or_left, or_right, or_cases, true≢false}
-use Rattle.std.proofs.lemmas.List.{take_more, get_or_default}
+use Rattle.std.proofs.lemmas.Bool.{or_left, or_right, or_cases, true≢false, cases_lt}
+use Rattle.std.proofs.lemmas.List.{take_more, get_or_default, get_or_past}
 use Rattle.hel_lists.specs.Members.{IsIn, Each}
 
 -- the item at a place is a member
@@ -71,3 +71,12 @@ each_all P xs i past each = subst (Each P) (take_all i xs past) each
 pub taken_more : {A : Type 0} (xs now next : List A) (i : ℕ) (x y : A) → i < length xs → now ≡ take i xs → next ≡ now ++ y ∷ [] → y ≡ x → ((d : A) → get_or xs i d ≡ x) → next ≡ take (i + 1) xs
 taken_more {A} xs now next i x y below was put same at =
     put ∙ ap (λ (l : List A). l ++ y ∷ []) was ∙ ap (λ (z : A). take i xs ++ z ∷ []) (same ∙ sym (at x)) ∙ sym (take_more xs i x below)
+
+-- a row that has a place is one of the table
+pub row_within : {A : Type 0} (table : List (List A)) (f n : ℕ) → n < length (get_or table f []) → f < length table
+row_within {A} table f n here = elim (cases_lt f (length table)) [
+  | inl below ↦ below
+  | inr past ↦
+      let none : length (get_or table f []) ≡ 0 = ap (λ (l : List A). length l) (get_or_past table f [] past) in
+      absurd (omega arith)
+]

@@ -1,5 +1,5 @@
 -- The filters that stand on an endpoint, and what they make of a message.
-use Rattle.std.specs.Prelude.{ℕ, ◌+◌, Bool, false, nat_lt, ◌||◌, not, List, [], ◌∷◌, map, length, Option, None, Some, unwrap_or}
+use Rattle.std.specs.Prelude.{ℕ, ◌+◌, ◌*◌, ◌≤◌, ◌<◌, Bool, false, nat_lt, ◌||◌, not, List, [], ◌∷◌, map, length, Option, None, Some, unwrap_or}
 use Rattle.std.specs.List.{filter_map}
 use Rattle.hel_values.specs.declared.EndRef.{EndRef}
 use Rattle.interface_names.specs.declared.records.EndRecord.{EndRecord}
@@ -13,7 +13,8 @@ use Rattle.message_filters.specs.declared.chain.Filtered.{Filtered}
 use Rattle.message_filters.specs.declared.chain.Filtered.TheVariants.{Kept, Dropped}
 use Rattle.message_filters.specs.Filter.{reroute_of}
 use Rattle.message_filters.specs.Chain.{filtered_of, last_of}
-use Rattle.federation_plan.specs.Interfaces.{Interface, name_ref, naming, endpoint_of, endpoint_at, filters}
+use Rattle.message_filters.specs.Limits.{longest_delay, most_filters}
+use Rattle.federation_plan.specs.Interfaces.{Interface, IsEndpoint, name_ref, naming, endpoint_of, endpoint_at, filters}
 
 -- the two sides on which a filter may stand
 abbrev pub sources : FilterTerms → List (List ℕ)
@@ -50,6 +51,11 @@ filtered_at feds from sequence dest = at_end (filtered_of (source_chain feds fro
     at_end : Filtered → Filtered
     at_end (Kept end delay) = later_by delay (filtered_of (destination_chain feds end) from.fed sequence end)
     at_end (Dropped place) = Dropped place
+
+-- a message is kept for an endpoint, later by no more than two chains delay, or dropped at a place of a chain
+abbrev pub IsFiltered : List FederateRecord → Filtered → Type 0
+IsFiltered feds (Kept end delay) = IsEndpoint feds end × (delay ≤ 2 * (most_filters * longest_delay))
+IsFiltered feds (Dropped place) = place < most_filters
 
 -- an endpoint that isn't targeted may send to every endpoint, a targeted one to its destination targets and to those
 -- that name it among their source targets

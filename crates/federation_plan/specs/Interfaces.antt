@@ -110,7 +110,10 @@ federate_at feds f = slice_index_or feds f blank_federate
 abbrev pub publication_at : List FederateRecord → EndRef → PubRecord
 publication_at feds p = slice_index_or (federate_at feds p.fed).publications p.index blank_publication
 
--- the endpoint of a reference
+-- the publication and the endpoint of a reference
+abbrev pub publication_interface : List FederateRecord → EndRef → Interface PubRecord
+publication_interface feds p = one_in (federate_at feds p.fed).name p.fed p.index (publication_at feds p)
+
 abbrev pub endpoint_at : List FederateRecord → EndRef → Interface EndRecord
 endpoint_at feds e = one_in (federate_at feds e.fed).name e.fed e.index (slice_index_or (federate_at feds e.fed).endpoints e.index blank_endpoint)
 
@@ -120,9 +123,12 @@ blank_filter = record { name = None; source_of = []; destination_of = []; kind =
 abbrev pub filter_at : List FederateRecord → EndRef → FilterTerms
 filter_at feds r = slice_index_or (federate_at feds r.fed).filters r.index blank_filter
 
--- a reference is that of a publication, of an endpoint, of a filter
+-- a reference is that of a publication, of an input, of an endpoint, of a filter
 abbrev pub IsPublication : List FederateRecord → EndRef → Type 0
 IsPublication feds p = p.index < length (federate_at feds p.fed).publications
+
+abbrev pub IsInput : List FederateRecord → EndRef → Type 0
+IsInput feds i = i.index < length (federate_at feds i.fed).inputs
 
 abbrev pub IsEndpoint : List FederateRecord → EndRef → Type 0
 IsEndpoint feds e = e.index < length (federate_at feds e.fed).endpoints

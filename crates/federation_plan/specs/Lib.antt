@@ -10,3 +10,5 @@ pub mod Refusal
 pub mod Side
 pub mod Tables
 pub mod Tree
+pub mod Waiting
+pub mod Wires

@@ -1,16 +1,16 @@
 -- The plan of a federation.
-use Rattle.std.specs.Prelude.{ℕ, ◌<◌, ◌≡◌, ◌⊎◌, true, List, length, slice_index_or, None, Some, Result, Ok, Err}
-use Rattle.hel_lists.specs.Members.{Each, IsIn}
+use Rattle.std.specs.Prelude.{◌≡◌, ◌⊎◌, ℕ, List, length, slice_index_or, None, Some, Result, Ok, Err}
+use Rattle.hel_lists.specs.Members.{Each}
 use Rattle.hel_values.specs.declared.EndRef.{EndRef}
 use Rattle.helics_time.specs.Settings.{IsTerms}
 use Rattle.interface_names.specs.declared.records.FederateRecord.{FederateRecord}
 use Rattle.interface_names.specs.Filter.{KeepsBounds}
 use Rattle.interface_names.specs.Registry.{IsRegistry}
-use Rattle.dependency_paths.specs.Paths.{row_of, AreAncestors}
+use Rattle.dependency_paths.specs.Paths.{AreAncestors}
 use Rattle.federation_plan.specs.declared.refusal.PlanRefusal.{PlanRefusal}
 use Rattle.federation_plan.specs.declared.refusal.PlanRefusal.TheVariants.{OutOfMemory}
 use Rattle.federation_plan.specs.declared.tree.Tree.{Tree}
-use Rattle.federation_plan.specs.Interfaces.{refs_naming, publication_of, federate_at, inputs}
+use Rattle.federation_plan.specs.Interfaces.{refs_naming, publication_of, inputs}
 use Rattle.federation_plan.specs.Tree.{IsValid}
 use Rattle.federation_plan.specs.Depends.{depends}
 use Rattle.federation_plan.specs.Refusal.{refusal_of}
@@ -43,14 +43,6 @@ targets_of feds p = refs_naming (publication_of feds) (λ i. i.targets) (inputs 
 -- the core of a federate
 abbrev pub core_at : Federation → ℕ → ℕ
 core_at p f = slice_index_or p.tree.cores f 0
-
--- two federates that wait for current updates and are each other's ancestors, the lesser first
-pub record IsWaitPair (p : Federation) (a b : ℕ) : Type 0 where
-  pub ordered : a < b
-  pub a_waits : (federate_at p.federates a).settings.wait ≡ true
-  pub b_waits : (federate_at p.federates b).settings.wait ≡ true
-  pub a_first : IsIn a (row_of p.ancestors b)
-  pub b_first : IsIn b (row_of p.ancestors a)
 
 -- a plan of these federates and this tree, or the first reason against it, or want of memory
 abbrev pub Builds : List FederateRecord → Tree → Result Federation PlanRefusal → Type 0

@@ -17,7 +17,7 @@ use crate::links::Rerouted;
 use crate::names::Names;
 use crate::refusal::PlanRefusal;
 use crate::tables::Table;
-use hel_lists::{Items, OutOfMemory, Text};
+use hel_lists::{Copied, Items, OutOfMemory, Text};
 use hel_values::EndRef;
 use interface_names::{FederateRecord, FilterKind, FilterRecord};
 use message_filters::{CHAIN_LIMIT, Chain, Filter, FilterDelay, PerMillion};
@@ -28,6 +28,15 @@ use std::alloc::Global;
 pub(crate) struct EndChains {
     pub source: Chain,
     pub destination: Chain,
+}
+
+impl Copied for EndChains {
+    fn copy(&self, alloc: Global) -> Result<Self, OutOfMemory> {
+        Ok(EndChains {
+            source: self.source.copy(alloc)?,
+            destination: self.destination.copy(alloc)?,
+        })
+    }
 }
 
 /// Looks for an endpoint with too many filters on one side.

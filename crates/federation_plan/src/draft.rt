@@ -12,7 +12,7 @@ use crate::names::{Names, endpoint_names, publication_names};
 use crate::refusal::{PlanRefusal, check_filters, check_kinds, check_required};
 use crate::tables::{Side, Table, filters_table, targets_table};
 use dependency_paths::{Ancestors, Links};
-use hel_lists::{Items, OutOfMemory};
+use hel_lists::{Copied, Items, OutOfMemory};
 use interface_names::FederateRecord;
 use std::alloc::Global;
 
@@ -106,6 +106,26 @@ pub(crate) fn tables_of(
         &draft.destinations,
     )?;
     let Draft { endpoints, .. } = draft;
+    Ok(Tables {
+        endpoints,
+        targets,
+        chains,
+    })
+}
+
+/// A copy of the tables of these federates. The table of names is made anew.
+pub(crate) fn copy_tables(
+    alloc: Global,
+    tables: &Tables,
+    federates: &[FederateRecord],
+) -> Result<Tables, OutOfMemory>
+    requires few { AreFew federates.now }
+    requires are { AreTables federates.now tables.now }
+    ensures { IfOk result (λ copy. AreTables federates.now copy) }
+{
+    let endpoints = endpoint_names(alloc, federates)?;
+    let targets = tables.targets.copy(alloc)?;
+    let chains = tables.chains.copy(alloc)?;
     Ok(Tables {
         endpoints,
         targets,

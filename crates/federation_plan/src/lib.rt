@@ -1,6 +1,7 @@
 //! The plan of a federation: its tree, its federates, and which of them reach which.
 #![tactic(auto)]
 
+mod calls;
 mod chains;
 mod draft;
 mod laws;
@@ -10,6 +11,7 @@ mod plan;
 mod refusal;
 mod tables;
 mod tree;
+mod waits;
 
 pub use laws::plan_laws;
 pub use plan::Plan;

@@ -191,7 +191,8 @@ fn kind_of(federates: &[FederateRecord], at: EndRef) -> ValueKind
     federate.publications.at(at.index as usize).kind
 }
 
-fn same_kind(a: ValueKind, b: ValueKind) -> bool
+/// Whether two kinds are the same.
+pub(crate) fn same_kind(a: ValueKind, b: ValueKind) -> bool
     ensures { result ≡ same_kind_of a b }
 {
     a == b

@@ -1,5 +1,5 @@
-use Rattle.federation_plan.proofs.Places.{endpoints_known, publications_known}
+use Rattle.federation_plan.proofs.Wired.{plan_laws as all_laws}
 use Rattle.federation_plan.proofs.laws.plan_laws.Goals as goal
 
 pub returns : goal.returns
-returns c = record { known = endpoints_known; pubs = publications_known }
+returns c = all_laws

@@ -1,0 +1,150 @@
+-- Pairs of federates that wait for each other.
+use Rattle.std.proofs.Common.{◌≡◌, ◌⊎◌, inl, inr, ℕ, zero, suc, ◌+◌, ◌<◌, ◌≤◌, Bool, true, false, List, [], ◌∷◌, length, get_or, drop, drop-cons, arith, refl, sym, ◌∙◌, ap, subst, Option, Some, None, add-one, eq-eqb}
+use Rattle.std.specs.Prelude.{◌||◌, ◌&&◌, nat_eq, nat_lt}
+use Rattle.std.specs.List.{list_any}
+use Rattle.std.specs.List.Sorted.{IsStrictlyIncreasing}
+use Rattle.std.proofs.lemmas.Bool.{or_cases, and_parts, eqb-true, true≢false, cases_lt}
+use Rattle.std.proofs.lemmas.List.{drop_all, get_or_past}
+use Rattle.std.proofs.lemmas.List.Kept.{AllPairs-from_increasing}
+use Rattle.hel_lists.specs.Members.{IsIn}
+use Rattle.hel_values.specs.declared.EndRef.{EndRef}
+use Rattle.interface_names.specs.declared.records.InputRecord.{InputRecord}
+use Rattle.interface_names.specs.declared.records.EndRecord.{EndRecord}
+use Rattle.interface_names.specs.declared.records.FederateRecord.{FederateRecord}
+use Rattle.dependency_paths.specs.Paths.{row_of, Leads, AreAncestors}
+use Rattle.dependency_paths.specs.Paths.Leads.{by_link, by_way_of}
+use Rattle.federation_plan.specs.Interfaces.{Interface, name_fed, publication_of, inputs, endpoints}
+use Rattle.federation_plan.specs.Depends.{by_value, by_message, depends, reaches}
+use Rattle.federation_plan.specs.Plan.{Federation, IsFederation}
+use Rattle.federation_plan.specs.Waiting.{IsWaitPair, ComesFirst, IsFirstWait, IsFirstPartner}
+use Rattle.federation_plan.proofs.Lists.{any_from, any_to}
+use Rattle.federation_plan.proofs.Named.{federate_within}
+use Rattle.federation_plan.proofs.Places.{stands_at, publications_known}
+use Rattle.federation_plan.proofs.Depending.{from_name}
+
+-- on whom another depends is a federate
+value_within : (feds : List FederateRecord) (a f : ℕ) → by_value feds a f ≡ true → a < length feds
+value_within feds a f holds =
+    let i = any_from (λ (i : Interface InputRecord). nat_eq f i.ref.fed && name_fed (publication_of feds) i.item.targets a) (inputs feds) holds in
+    let m = from_name (publication_of feds) i.0.item.targets a (and_parts _ _ i.2).1 in
+    subst (λ (g : ℕ). g < length feds) (sym (eqb-true a m.1.fed m.4))
+    (federate_within (λ (x : FederateRecord). x.publications) feds m.1.fed m.1.index refl (publications_known feds m.0 m.1 m.3))
+
+message_within : (feds : List FederateRecord) (a f : ℕ) → by_message feds a f ≡ true → a < length feds
+message_within feds a f holds =
+    let e = any_from (λ (e : Interface EndRecord). nat_eq a e.ref.fed && list_any (λ x. nat_eq f x.ref.fed && reaches feds e x) (endpoints feds)) (endpoints feds) holds in
+    subst (λ (g : ℕ). g < length feds) (sym (eqb-true a e.0.ref.fed (and_parts _ _ e.2).0))
+    (federate_within (λ (x : FederateRecord). x.endpoints) feds e.0.ref.fed e.0.ref.index refl (stands_at (λ (x : FederateRecord). x.endpoints) feds e.0 e.1).within)
+
+depends_within : (feds : List FederateRecord) (a f : ℕ) → depends feds a f ≡ true → a < length feds
+unfolding depends
+depends_within feds a f holds = elim (or_cases (by_value feds a f) (by_message feds a f) holds) [
+  | inl value ↦ value_within feds a f value
+  | inr message ↦ message_within feds a f message
+]
+
+leads_within : (feds : List FederateRecord) (a f : ℕ) → Leads (depends feds) a f → a < length feds
+leads_within feds _ _ (by_link a f holds) = depends_within feds a f holds
+leads_within feds _ _ (by_way_of a b f first rest) = leads_within feds a b first
+
+-- so are all ancestors
+pub ancestor_within : (p : Federation) → IsFederation p → (a f : ℕ) → IsIn a (row_of p.ancestors f) → a < length p.federates
+ancestor_within p is a f among = leads_within p.federates a f ((is.closed.exact a f).0 among).1
+
+-- who has ancestors is a federate
+pub row_some : (p : Federation) → IsFederation p → (a f : ℕ) → IsIn a (row_of p.ancestors f) → f < length p.federates
+row_some p is a f among = elim (cases_lt f (length p.ancestors)) [
+  | inl below ↦ subst (λ (n : ℕ). f < n) is.closed.one_each below
+  | inr past ↦ absurd (subst (IsIn a) (get_or_past p.ancestors f [] past) among)
+]
+
+-- the ancestors from place i on hold all with whom a makes a pair
+pub record AreLeft (p : Federation) (a i : ℕ) (row : List ℕ) : Type 0 where
+  pub left : (d : ℕ) → IsWaitPair p a d → IsIn d (drop i row)
+
+pub left_first : (p : Federation) (a : ℕ) (row : List ℕ) → row ≡ row_of p.ancestors a → AreLeft p a 0 row
+left_first p a row is = record { left = λ d pair. subst (IsIn d) (sym is) pair.b_first }
+
+pub left_more : (p : Federation) (a i b : ℕ) (row : List ℕ) → i < length row → b ≡ get_or row i b → (IsWaitPair p a b → ⊥) → AreLeft p a i row → AreLeft p a (i + 1) row
+left_more p a i b row below at none were = record {
+  left = λ d pair. subst (λ (k : ℕ). IsIn d (drop k row)) (sym (add-one i)) (elim (subst (IsIn d) (drop-cons row i b below) (were.left d pair)) [
+    | inl here ↦ absurd (none (subst (λ (e : ℕ). IsWaitPair p a e) (here ∙ sym at) pair))
+    | inr later ↦ later
+  ]);
+}
+
+pub left_none : (p : Federation) (a i : ℕ) (row : List ℕ) → length row ≤ i → AreLeft p a i row → (d : ℕ) → IsWaitPair p a d → ⊥
+left_none p a i row past were d pair = subst (IsIn d) (drop_all i row past) (were.left d pair)
+
+-- the place of what stands from place i on
+place_in : (row : List ℕ) (i d : ℕ) → IsIn d (drop i row) → (k : ℕ) × (i ≤ k) × (k < length row) × (d ≡ get_or row k 0)
+place_in [] zero d among = absurd among
+place_in [] (suc i) d among = absurd among
+place_in (x ∷ xs) zero d among = elim among [
+  | inl here ↦ (0, omega arith, omega arith, here)
+  | inr later ↦ let rest = place_in xs 0 d later in (suc rest.0, omega arith, (let below : rest.0 < length xs = rest.2 in omega (arith, below)), rest.3)
+]
+place_in (x ∷ xs) (suc i) d among =
+    let rest = place_in xs i d among in
+    let low : i ≤ rest.0 = rest.1 in
+    let below : rest.0 < length xs = rest.2 in
+    (suc rest.0, omega (arith, low), omega (arith, below), rest.3)
+
+-- what stands further on in a rising list is greater
+greater : (row : List ℕ) (i d : ℕ) → IsStrictlyIncreasing row → i < length row → IsIn d (drop i row) → get_or row i 0 ≤ d
+greater row i d rises below among =
+    let at = place_in row i d among in
+    elim (cases_lt i at.0) [
+      | inl later ↦
+          let higher : get_or row i 0 < get_or row at.0 0 = AllPairs-from_increasing row rises i at.0 0 later at.2 in
+          let is : d ≡ get_or row at.0 0 = at.3 in
+          omega (arith, higher, is)
+      | inr here ↦
+          let lower : i ≤ at.0 = at.1 in
+          let same : at.0 ≡ i = omega (arith, lower, here) in
+          let is : d ≡ get_or row i 0 = at.3 ∙ ap (λ (k : ℕ). get_or row k 0) same in
+          omega (arith, is)
+    ]
+
+pub left_least : (p : Federation) (a i : ℕ) (row : List ℕ) → IsStrictlyIncreasing row → i < length row → AreLeft p a i row → (d : ℕ) → IsWaitPair p a d → get_or row i 0 ≤ d
+left_least p a i row rises below were d pair = greater row i d rises below (were.left d pair)
+
+-- none before a makes a pair
+pub record AreDone (p : Federation) (a : ℕ) : Type 0 where
+  pub done : (c d : ℕ) → IsWaitPair p c d → a ≤ c
+
+pub done_more : (p : Federation) (a : ℕ) → AreDone p a → ((d : ℕ) → IsWaitPair p a d → ⊥) → AreDone p (a + 1)
+done_more p a were none = record {
+  done = λ c d pair.
+      let low : a ≤ c = were.done c d pair in
+      elim (cases_lt a c) [
+        | inl above ↦ omega (arith, above)
+        | inr here ↦ let same : c ≡ a = omega (arith, low, here) in absurd (none d (subst (λ (e : ℕ). IsWaitPair p e d) same pair))
+      ];
+}
+
+pub done_first : (p : Federation) (a b : ℕ) → AreDone p a → IsFirstPartner p a (Some b) → IsFirstWait p (Some (a, b))
+done_first p a b were partner = (
+  partner.0,
+  λ c d pair.
+      let low : a ≤ c = were.done c d pair in
+      elim (cases_lt a c) [
+        | inl above ↦ inl above
+        | inr here ↦ let same : a ≡ c = omega (arith, low, here) in inr (same, partner.1 d (subst (λ (e : ℕ). IsWaitPair p e d) (sym same) pair))
+      ],
+)
+
+pub done_all : (p : Federation) (a : ℕ) → IsFederation p → length p.federates ≤ a → AreDone p a → (c d : ℕ) → IsWaitPair p c d → ⊥
+done_all p a is past were c d pair =
+    let low : a ≤ c = were.done c d pair in
+    let below : c < length p.federates = row_some p is d c pair.b_first in
+    omega (arith, low, below, past)
+
+-- a member by a test
+pub contains_is : (row all : List ℕ) (a : ℕ) (b : Bool) → row ≡ all → b ≡ list_any (λ y. nat_eq y a) row → (b ≡ true → IsIn a all) × (IsIn a all → b ≡ true)
+contains_is row all a b same is = (
+  λ holds.
+      let one = any_from (λ y. nat_eq y a) row (sym is ∙ holds) in
+      subst (λ (l : List ℕ). IsIn a l) same (subst (λ (x : ℕ). IsIn x row) (eqb-true one.0 a one.2) one.1),
+  λ among. is ∙ any_to (λ y. nat_eq y a) row a (subst (λ (l : List ℕ). IsIn a l) (sym same) among) (eq-eqb a a refl),
+)
