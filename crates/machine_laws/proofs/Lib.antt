@@ -17,5 +17,8 @@ pub mod GrantsCommute
 pub mod CallGrant
 pub mod Moves
 pub mod OneEnd
+pub mod Enabled
+pub mod Stuck
+pub mod Failures
 pub mod FirstBy
 pub mod Pair

@@ -109,14 +109,14 @@ called p s f doing times calling = by_refusal (doing_refusal p f (member_at s f)
     }
 
 -- what is known of the step that a federate would take
-record Chosen (p : Plan) (scripts : Scripts) (w : Play) (f : ℕ) (step : Step) : Type 0 where
-  own : Calls p f step ⊎ (step ≡ grant f)
+pub record Chosen (p : Plan) (scripts : Scripts) (w : Play) (f : ℕ) (step : Step) : Type 0 where
+  pub own : Calls p f step ⊎ (step ≡ grant f)
   lawful : IsLawful p w.state step
   -- it would take it from each play where its member and its calls are the same and the step is lawful
   again : (v : Play) → member_at v.state f ≡ member_at w.state f → calls_of v f ≡ calls_of w f → refusal_of p v.state step ≡ None → next_step p scripts v f ≡ Some step
 
 -- the step that a federate would take is its call or its grant
-chosen_is : (p : Plan) (scripts : Scripts) (w : Play) (f : ℕ) (step : Step) → KeepsTimes scripts → next_step p scripts w f ≡ Some step → Chosen p scripts w f step
+pub chosen_is : (p : Plan) (scripts : Scripts) (w : Play) (f : ℕ) (step : Step) → KeepsTimes scripts → next_step p scripts w f ≡ Some step → Chosen p scripts w f step
 chosen_is p scripts w f step times choice = elim (cases_phase m.time.phase (Some call) grants step choice) [
   | inl calling ↦
       let made = called p w.state f (scripts f (calls_of w f) m.log) (times f (calls_of w f) m.log) calling.0 in
@@ -154,7 +154,7 @@ pub record Moved (p : Plan) (scripts : Scripts) (f : ℕ) (w a : Play) : Type 0 
   pub choice : next_step p scripts w f ≡ Some step
   pub is : a ≡ moved p w f step
 
-moved_is : (p : Plan) (scripts : Scripts) (f : ℕ) (w a : Play) → move p scripts f w ≡ Some a → Moved p scripts f w a
+pub moved_is : (p : Plan) (scripts : Scripts) (f : ℕ) (w a : Play) → move p scripts f w ≡ Some a → Moved p scripts f w a
 moved_is p scripts f w a e = by_choice (next_step p scripts w f) refl e
   where
     by_choice : (o : Option Step) → next_step p scripts w f ≡ o → option_map (moved p w f) o ≡ Some a → Moved p scripts f w a
@@ -177,7 +177,7 @@ steps_commute p s f g a b plan keeps differs (inr grants) (inr also) lawful_a la
     (grant_grant p s f g differs (subst (λ (x : Step). refusal_of p s x ≡ None) grants lawful_a.0) (subst (λ (x : Step). refusal_of p s x ≡ None) also lawful_b.0)))
 
 -- a step of f leaves the member of g
-member_stays : (p : Plan) (s : State) (f g : ℕ) (a : Step) → f ≢ g → Calls p f a ⊎ (a ≡ grant f) → member_at (after p s a) g ≡ member_at s g
+pub member_stays : (p : Plan) (s : State) (f g : ℕ) (a : Step) → f ≢ g → Calls p f a ⊎ (a ≡ grant f) → member_at (after p s a) g ≡ member_at s g
 member_stays p s f g a differs (inl calls) = ap (λ (t : State). member_at t g) (calls.does s) ∙ other_member s f g _ s.items differs
 member_stays p s f g a differs (inr grants) = subst (λ (x : Step). member_at (after p s x) g ≡ member_at s g) (sym grants) (other_member s f g _ s.items differs)
 

@@ -13,7 +13,8 @@ use Rattle.iteration_rules.specs.declared.Mode.{Mode}
 use Rattle.iteration_rules.specs.declared.Mode.TheVariants.{Force, IfNeeded}
 use Rattle.time_state.specs.Fed.{Fed, IsFed, zero_stamp, is_asking, request_stamp, requested, grant_of}
 use Rattle.time_state.specs.declared.Grant.{Grant}
-use Rattle.time_state.specs.declared.Phase.TheVariants.{Entering, Waiting}
+use Rattle.time_state.specs.declared.Cause.TheVariants.{Finished}
+use Rattle.time_state.specs.declared.Phase.TheVariants.{Entering, Waiting, Ended}
 use Rattle.machine_laws.specs.declared.logs.LogEntry.{LogEntry}
 use Rattle.machine_laws.specs.declared.refusal.Unlawful.TheVariants.{StrangeNumber, NotAsked, Early}
 use Rattle.machine_laws.specs.Plan.{Call, Plan, IsPlan}
@@ -241,3 +242,20 @@ logged_items (e ∷ entries) = e.items ++ logged_items entries
 abbrev pub LogsHold : Type 0
 LogsHold = (p : Plan) (steps : List Step) (end : State) (f : ℕ) → IsPlan p → IsRun p (opening p) steps end →
     logged_items (member_at end f).log ≡ filter (is_to f) (all_handed p (opening p) steps)
+
+-- two federates that wait for current updates and are each other's ancestors
+pub record WaitForEachOther (p : Plan) (a b : ℕ) : Type 0 where
+  pub a_waits : (terms_of p a).wait ≡ true
+  pub b_waits : (terms_of p b).wait ≡ true
+  pub a_first : IsIn a (p.ancestors b)
+  pub b_first : IsIn b (p.ancestors a)
+
+-- each federate waits for a grant, or has finished
+abbrev pub AllWait : State → Type 0
+AllWait s = (f : ℕ) → f < length s.members → (is_asking (member_at s f).time.phase ≡ true) ⊎ ((member_at s f).time.phase ≡ Ended Finished)
+
+-- Where all wait that haven't finished, and no two of them for each other, one of them may be granted.
+abbrev pub SomeGrant : Type 0
+SomeGrant = (p : Plan) (s : State) (before : List Step) (f : ℕ) → IsPlan p → ((a b : ℕ) → IsIn a (p.ancestors b) → a < length s.members) →
+    IsRun p (opening p) before s → AllWait s → f < length s.members → is_asking (member_at s f).time.phase ≡ true →
+    ((a b : ℕ) → WaitForEachOther p a b → ⊥) → (g : ℕ) × (refusal_of p s (grant g) ≡ None)

@@ -1,18 +1,20 @@
 -- The machine of scripted federates, and its moves.
-use Rattle.std.specs.Prelude.{ℕ, ◌+◌, ◌<◌, ◌≡◌, ◌≢◌, Bool, true, false, if◌then◌else◌, List, [], ◌∷◌, ◌++◌, length, slice_index_or, slice_set, Option, Some, None, option_map, option_to_list, unwrap_or, map}
+use Rattle.std.specs.Prelude.{ℕ, ◌+◌, ◌<◌, ◌≡◌, ◌≢◌, ◌⊎◌, Bool, true, false, if◌then◌else◌, List, [], ◌∷◌, ◌++◌, length, slice_index_or, slice_set, Option, Some, None, option_map, option_to_list, unwrap_or, map}
 use Rattle.helics_time.specs.Settings.{Terms}
 use Rattle.iteration_rules.specs.declared.Mode.{Mode}
-use Rattle.time_state.specs.Fed.{enter_refusal, request_refusal}
+use Rattle.hel_lists.specs.Members.{IsIn}
+use Rattle.time_state.specs.Fed.{enter_refusal, request_refusal, is_live}
+use Rattle.time_state.specs.declared.Cause.TheVariants.{Finished, Failed}
 use Rattle.time_state.specs.declared.Phase.{Phase}
-use Rattle.time_state.specs.declared.Phase.TheVariants.{Initializing, Entering, Running, Waiting}
+use Rattle.time_state.specs.declared.Phase.TheVariants.{Initializing, Entering, Running, Waiting, Ended}
 use Rattle.machine_laws.specs.declared.logs.LogEntry.{LogEntry}
 use Rattle.machine_laws.specs.declared.refusal.CallRefusal.{CallRefusal}
 use Rattle.machine_laws.specs.declared.refusal.Unlawful.{Unlawful}
 use Rattle.machine_laws.specs.Refusal.{refusal_by_time, refusal_word}
 use Rattle.machine_laws.specs.Plan.{Call, Plan, IsPlan}
-use Rattle.machine_laws.specs.Machine.{State, Member, Step, member_at, refusal_of, make_refusal, finish_refusal, end_refusal, after, opening, KeepsTime, IsRun, logs_of}
+use Rattle.machine_laws.specs.Machine.{State, Member, Step, member_at, has_failed, refusal_of, make_refusal, finish_refusal, end_refusal, after, opening, KeepsTime, IsRun, logs_of}
 use Rattle.machine_laws.specs.Machine.Step.{begin, enter, make, request, grant, finish, fail}
-use Rattle.machine_laws.specs.Laws.{Keeps}
+use Rattle.machine_laws.specs.Laws.{Keeps, WaitForEachOther}
 
 -- what a federate calls
 pub data Doing : Type 0 where
@@ -144,3 +146,63 @@ IsReference p scripts w (f ∷ fs) end =
 abbrev pub ReferenceLogs : Type 0
 ReferenceLogs = (p : Plan) (scripts : Scripts) (a b : Play) (fs gs : List ℕ) → IsPlan p → KeepsTimes scripts →
     IsReference p scripts (opening_play p) fs a → Moves p scripts (opening_play p) gs b → IsStill p scripts b → logs_of b.state ≡ logs_of a.state
+
+-- Where runs of scripts end at a play in which no federate may move, every order of moves ends there, in as many moves:
+-- what has moved so far leaves as many moves less.
+abbrev pub OrdersEnd : Type 0
+OrdersEnd = (p : Plan) (scripts : Scripts) (w v end : Play) (fs gs : List ℕ) → IsPlan p → KeepsTimes scripts → Keeps p w.state →
+    Moves p scripts w fs end → IsStill p scripts end → Moves p scripts w gs v →
+    (rest : List ℕ) × Moves p scripts v rest end × (length gs + length rest ≡ length fs)
+
+-- And the reference run is one of these orders.
+abbrev pub ReferenceEnds : Type 0
+ReferenceEnds = (p : Plan) (scripts : Scripts) (w end : Play) (gs : List ℕ) → IsPlan p → KeepsTimes scripts → Keeps p w.state →
+    Moves p scripts w gs end → IsStill p scripts end → (fs : List ℕ) × IsReference p scripts w fs end × (length fs ≡ length gs)
+
+-- a federate that scripts play: it calls or waits, or has ended by a call of its own
+abbrev pub plays_on : Phase → Bool
+plays_on Initializing = true
+plays_on Entering = true
+plays_on Running = true
+plays_on Waiting = true
+plays_on (Ended Finished) = true
+plays_on (Ended Failed) = true
+plays_on phase = false
+
+-- no federate has failed
+abbrev pub NoneFailed : State → Type 0
+NoneFailed s = (f : ℕ) → f < length s.members → has_failed (member_at s f).time.phase ≡ false
+
+-- Where runs of scripts end, none failed and one lives, two that wait for current updates wait for each other.
+abbrev pub StuckWaits : Type 0
+StuckWaits = (p : Plan) (scripts : Scripts) (end : Play) (fs : List ℕ) (f : ℕ) → IsPlan p → KeepsTimes scripts → ((a b : ℕ) → IsIn a (p.ancestors b) → a < length p.settings) →
+    Moves p scripts (opening_play p) fs end → IsStill p scripts end → NoneFailed end.state →
+    f < length end.state.members → is_live (member_at end.state f).time.phase ≡ true → ((a b : ℕ) → WaitForEachOther p a b → ⊥) → ⊥
+
+abbrev pub is_failed : Phase → Bool
+is_failed (Ended Failed) = true
+is_failed phase = false
+
+-- a federate has failed
+abbrev pub failed_in : Play → ℕ → Bool
+failed_in w f = is_failed (member_at w.state f).time.phase
+
+-- the least federate that may move moves, until one has failed by its move or none may; who failed, if any
+abbrev pub IsUpToFailure : Plan → Scripts → Play → List ℕ → Option ℕ → Play → Type 0
+IsUpToFailure p scripts w [] failed end = (end ≡ w) × (failed ≡ None) × IsStill p scripts w
+IsUpToFailure p scripts w (f ∷ fs) failed end =
+    (next : Play) × (move p scripts f w ≡ Some next) × ((g : ℕ) → g < f → move p scripts g w ≡ None)
+    × (((failed_in next f ≡ true) × (fs ≡ []) × (failed ≡ Some f) × (end ≡ next))
+    ⊎ ((failed_in next f ≡ false) × IsUpToFailure p scripts next fs failed end))
+
+-- A run up to the first failure is one of moves. Where none failed it is the reference run, and where a federate lives at its end,
+-- two that wait for current updates wait for each other.
+pub record UpToFailure (p : Plan) (scripts : Scripts) : Type 0 where
+  pub moves : (w end : Play) (fs : List ℕ) (failed : Option ℕ) → IsUpToFailure p scripts w fs failed end → Moves p scripts w fs end
+  pub reference : (w end : Play) (fs : List ℕ) → IsUpToFailure p scripts w fs None end → IsReference p scripts w fs end
+  pub waits : (end : Play) (fs : List ℕ) (f : ℕ) → IsPlan p → KeepsTimes scripts → ((a b : ℕ) → IsIn a (p.ancestors b) → a < length p.settings) →
+      IsUpToFailure p scripts (opening_play p) fs None end → f < length end.state.members → is_live (member_at end.state f).time.phase ≡ true →
+      ((a b : ℕ) → WaitForEachOther p a b → ⊥) → ⊥
+
+abbrev pub StopsAtFailure : Type 0
+StopsAtFailure = (p : Plan) (scripts : Scripts) → UpToFailure p scripts

@@ -1,8 +1,8 @@
 // Laws of all runs of the machine, over any plan that has what they need.
 ghost use Rattle.machine_laws.specs.Example.{PairRuns};
 ghost use Rattle.machine_laws.specs.First.{FirstLaws};
-ghost use Rattle.machine_laws.specs.Laws.{RunsKeep, NothingLate, GrantsOnGrid, LogsRise, LogsTell, RequestsTell, GrantsAsAsked, EarlyNamesTheLeast, KeptUntilReached, HandedWhenReached, HandedOnce, HandedInOrder, ItemsFromCalls, ItemsFates, ItemsAddUp, LogsHold};
-ghost use Rattle.machine_laws.specs.Moves.{Diamond, OneEnd, OneAnswer, MovesRun, ReferenceLogs};
+ghost use Rattle.machine_laws.specs.Laws.{RunsKeep, NothingLate, SomeGrant, GrantsOnGrid, LogsRise, LogsTell, RequestsTell, GrantsAsAsked, EarlyNamesTheLeast, KeptUntilReached, HandedWhenReached, HandedOnce, HandedInOrder, ItemsFromCalls, ItemsFates, ItemsAddUp, LogsHold};
+ghost use Rattle.machine_laws.specs.Moves.{Diamond, OneEnd, OrdersEnd, OneAnswer, MovesRun, ReferenceEnds, ReferenceLogs, StuckWaits, StopsAtFailure};
 
 /// Every state of every run keeps the facts of its federates' times, and has its undelivered items in order,
 /// from ancestors alone, each above its target's last cut, with none to come at or below it: docs/RULES.md,
@@ -35,6 +35,12 @@ pub fn grants_on_grid()
 /// is due by its cut. The refusal names the least such ancestor and its event: docs/RULES.md, Steps.
 pub fn early_names_the_least()
     ensures { EarlyNamesTheLeast }
+{}
+
+/// Where each federate that hasn't finished waits for a grant, and no two that wait for current updates are each
+/// other's ancestors, some grant is lawful: docs/RULES.md, Grants.
+pub fn some_grant()
+    ensures { SomeGrant }
 {}
 
 /// An item stays undelivered until the first grant of its target whose cut reaches its due. That grant hands
@@ -82,10 +88,29 @@ pub fn one_end()
     ensures { OneEnd }
 {}
 
+/// From any state of a run from which a run of scripts ends, every order of moves ends there, in as many moves,
+/// and the reference run is one of these orders: docs/RULES.md, Scripts.
+pub fn orders_end()
+    ensures orders { OrdersEnd }
+    ensures reference { ReferenceEnds }
+{}
+
 /// From the opening all runs of scripts that go on until no federate may move end alike: docs/RULES.md,
 /// Scripts.
 pub fn one_answer()
     ensures { OneAnswer }
+{}
+
+/// Where a run of scripts goes on until no federate may move, none has failed and one is live then, two federates
+/// that wait for current updates are each other's ancestors: docs/RULES.md, Scripts.
+pub fn stuck_waits()
+    ensures { StuckWaits }
+{}
+
+/// A run of scripts up to its first failure is one of moves. Where none failed it is the reference run; and where a
+/// federate is live then, two that wait for current updates are each other's ancestors: docs/RULES.md, Scripts.
+pub fn stops_at_failure()
+    ensures { StopsAtFailure }
 {}
 
 /// Each run of scripts that goes on until no federate may move has the logs of the reference run, in which
