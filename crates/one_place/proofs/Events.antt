@@ -18,21 +18,9 @@ use Rattle.time_state.specs.declared.Phase.TheVariants.{Created, Initializing, E
 use Rattle.time_state.proofs.Least.{least_decides}
 use Rattle.time_state.proofs.Turns.{opening_stands, turn_stands, end_stands}
 use Rattle.time_state.proofs.Grants.{grant_stands, grant_steps}
-use Rattle.helics_time.specs.Settings.{IsTerms}
-use Rattle.machine_laws.specs.Machine.{default_terms}
-use Rattle.one_place.specs.Members.{dues_of}
-
--- the default settings are in their bounds
-pub default_is : IsTerms default_terms
-default_is = record {
-  period = omega arith;
-  offset = omega arith;
-  time_delta = omega arith;
-  input_delay = omega arith;
-  output_delay = omega arith;
-  some_iterations = omega arith;
-  few_iterations = omega arith;
-}
+use Rattle.helics_time.specs.Settings.{Terms, IsTerms}
+use Rattle.machine_laws.specs.Machine.{limit_refusal}
+use Rattle.one_place.specs.Members.{dues_of, sender_of}
 
 -- where the items are items, so are their dues
 dues_are : (queue : List Parcel) → Each (λ i. IsDue i.due) queue → Each IsDue (dues_of queue)
@@ -97,6 +85,20 @@ own_due f fed low small =
     let next = next_by f.last_cut (omega (arith, bounds.1)) in
     subst IsDue (sym next) (record { time = omega (arith, bounds.0); micro = omega (arith, bounds.1) })
 
--- a new federate with the default settings
-pub new_fed : IsFed (created default_terms)
-new_fed = opening_stands default_terms default_is
+-- a new federate
+pub new_fed : (terms : Terms) → IsTerms terms → IsFed (created terms)
+new_fed terms is = opening_stands terms is
+
+-- a federate that may send is below the limits
+pub sends_low : (f : Fed) (seq : ℕ) → IsFed f → limit_refusal (sender_of f seq) ≡ None → f.last.time < horizon
+sends_low f seq fed none = let lawful = fed.time in grind (arith, nat_tests)
+
+pub sends_small : (f : Fed) (seq : ℕ) → limit_refusal (sender_of f seq) ≡ None → f.last.micro < 2 ^ 62
+sends_small f seq none = grind (arith, nat_tests)
+
+pub sends_few : (f : Fed) (seq : ℕ) → limit_refusal (sender_of f seq) ≡ None → seq < 2 ^ 32
+sends_few f seq none = grind (arith, nat_tests)
+
+-- what comes later has a due that items may have
+pub later_due : (f : Fed) (delay : ℕ) → f.last.time < horizon → delay < 2 ^ 61 → IsDue (record { time = f.last.time + delay; micro = 0 })
+later_due f delay low soon = record { time = omega (arith, low, soon); micro = omega arith }

@@ -1,6 +1,6 @@
 -- The queues of all federates, one after another, are the machine's one list of items.
 use Rattle.std.proofs.Common.{◌≡◌, ◌≢◌, ◌⊎◌, inl, inr, ℕ, zero, suc, ◌+◌, ◌<◌, ◌≤◌, Bool, true, false, not, List, [], ◌∷◌, ◌++◌, length, refl, sym, ◌∙◌, ap, subst, arith}
-use Rattle.std.specs.Prelude.{slice_set, replicate}
+use Rattle.std.specs.Prelude.{slice_set}
 use Rattle.std.specs.List.{filter}
 use Rattle.std.proofs.lemmas.Bool.{cases_Bool, eq-eqb, ne_eqb}
 use Rattle.std.proofs.lemmas.Bool.Decides.{nat_tests}
@@ -13,7 +13,8 @@ use Rattle.due_queue.proofs.Order.{one_target, insert_first, insert_later}
 use Rattle.due_queue.proofs.Sorted.{insert_by_first, insert_by_later, insert_by_front}
 use Rattle.machine_laws.specs.Machine.{is_to, is_handed, is_left}
 use Rattle.one_place.specs.declared.seat.Clock.{Clock}
-use Rattle.one_place.specs.Members.{AreQueued, blank_clock, clock_at, gathered}
+use Rattle.interface_names.specs.declared.records.FederateRecord.{FederateRecord}
+use Rattle.one_place.specs.Members.{AreQueued, new_clocks, clock_at, gathered}
 
 -- an item to a lesser federate comes before one to a greater
 lesser_first : (i j : Parcel) → i.target < j.target → comes_before i j ≡ true
@@ -193,11 +194,11 @@ in_behind [] ys i among = among
 in_behind (x ∷ xs) ys i among = inr (in_behind xs ys i among)
 
 -- no federate has items at the beginning
-pub none_gathered : (n : ℕ) → gathered (replicate n blank_clock) ≡ []
+pub none_gathered : (feds : List FederateRecord) → gathered (new_clocks feds) ≡ []
 unfolding gathered
-none_gathered zero = refl
-none_gathered (suc n) = none_gathered n
+none_gathered [] = refl
+none_gathered (fed ∷ feds) = none_gathered feds
 
-pub none_queued : (f n : ℕ) → AreQueued f (replicate n blank_clock)
-none_queued f zero = tt
-none_queued f (suc n) = ((λ i none. absurd none), none_queued (suc f) n)
+pub none_queued : (f : ℕ) (feds : List FederateRecord) → AreQueued f (new_clocks feds)
+none_queued f [] = tt
+none_queued f (fed ∷ feds) = ((λ i none. absurd none), none_queued (suc f) feds)

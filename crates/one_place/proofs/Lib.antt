@@ -1,12 +1,10 @@
-pub mod Building
-pub mod Dependents
+pub mod Accepting
 pub mod Events
 pub mod Gathered
 pub mod Halting
+pub mod Held
 pub mod Lawful
 pub mod Mapped
-pub mod Opening
-pub mod Plans
 pub mod Publishing
 pub mod Puts
 pub mod Scripts
@@ -15,3 +13,6 @@ pub mod Seats
 pub mod Starting
 pub mod Turns
 pub mod Work
+pub mod Movers
+pub mod Ordering
+pub mod Endings

@@ -1,28 +1,23 @@
--- A publish: its items in the queues of their targets, and the next sequence number.
-use Rattle.std.proofs.Common.{◌≡◌, inl, inr, ℕ, zero, suc, ◌+◌, ◌<◌, Bool, true, false, not, List, [], ◌∷◌, length, refl, sym, ◌∙◌, ap, subst, arith}
+-- A call that sends: its items in the queues of their targets, and the next sequence number.
+use Rattle.std.proofs.Common.{◌≡◌, inl, inr, ℕ, zero, suc, ◌+◌, ◌<◌, ◌^◌, Bool, true, false, not, List, [], ◌∷◌, length, refl, sym, ◌∙◌, ap, subst, arith}
 use Rattle.std.specs.Prelude.{map, slice_set, slice_index_or, ◌==◌, ◌&&◌, Result, Ok, Err, None}
 use Rattle.std.specs.List.{filter}
 use Rattle.std.specs.Result.{OnOk, OnErr}
 use Rattle.std.proofs.lemmas.Bool.{cases_Bool, eqb-true, false≢true}
-use Rattle.std.proofs.lemmas.Bool.Decides.{nat_tests}
 use Rattle.std.proofs.lemmas.List.{get_or_default, get_or-set_same}
 use Rattle.hel_lists.specs.Members.{IsIn, Each}
-use Rattle.hel_lists.proofs.Members.{in_map}
-use Rattle.hel_values.specs.declared.EndRef.{EndRef}
-use Rattle.hel_values.specs.declared.Value.{Value}
 use Rattle.due_queue.specs.Item.{Parcel, is_made_by}
 use Rattle.due_queue.specs.Order.{is_sooner, insert_all}
 use Rattle.due_queue.specs.Queue.{is_made_otherwise}
 use Rattle.due_queue.proofs.Sorted.{in_insert_by}
 use Rattle.due_queue.proofs.Order.{in_insert_all}
-use Rattle.time_state.specs.Fed.{Fed, IsFed}
+use Rattle.time_state.specs.Fed.{Fed}
 use Rattle.machine_laws.specs.declared.logs.FedLog.{FedLog}
-use Rattle.machine_laws.specs.Plan.{Leg, item_of}
 use Rattle.machine_laws.specs.Machine.{Member, State, blank_member, member_at, limit_refusal, with_member, called_member, end_of}
 use Rattle.one_place.specs.declared.seat.Clock.{Clock}
-use Rattle.one_place.specs.Plan.{leg_to}
-use Rattle.one_place.specs.Members.{MaySend, member_of, IsClock, AreSeats, AreClocks, AreQueued, AreKept, AreMade, joined, gathered, state_of, blank_clock, clock_at, log_at, with_queue, taken_back, called_at, put_in, put_all}
+use Rattle.one_place.specs.Members.{member_of, IsClock, AreSeats, AreClocks, AreQueued, AreKept, AreMade, joined, gathered, state_of, blank_clock, clock_at, log_at, with_queue, taken_back, called_at, put_in, put_all}
 use Rattle.one_place.proofs.Gathered.{gathered_put, gathered_same, queued_set, own_queue, in_front, in_behind, filter_all}
+use Rattle.one_place.proofs.Events.{sends_few}
 use Rattle.one_place.proofs.Puts.{clock_in, put_length}
 use Rattle.one_place.proofs.Seats.{clocks_of, joined_length, member_is}
 
@@ -129,16 +124,6 @@ joined_clock (x ∷ cs) [] (suc t) c = refl
 joined_clock (x ∷ cs) (l ∷ ls) zero c = refl
 joined_clock (x ∷ cs) (l ∷ ls) (suc t) c = ap (λ (ms : List Member). member_of x l ∷ ms) (joined_clock cs ls t c)
 
--- what a publish makes is made by it, for federates that there are
-pub items_made : (time : Fed) (source seq count : ℕ) (publication : EndRef) (value : Value) (targets : List EndRef) → Each (λ e. e.fed < count) targets →
-    AreMade count source seq (map (item_of time source seq) (map (leg_to publication value) targets))
-items_made time source seq count publication value targets known i among =
-    let m = in_map (item_of time source seq) (map (leg_to publication value) targets) i among in
-    let e = in_map (leg_to publication value) targets m.0 m.1 in
-    let to : i.target ≡ e.0.fed = ap (λ (x : Parcel). x.target) m.2 ∙ ap (λ (x : Leg). x.target) e.2 in
-    let within : e.0.fed < count = known e.0 e.1 in
-    (omega (arith, to, within), ap (λ (x : Parcel). x.source) m.2, ap (λ (x : Parcel). x.seq) m.2)
-
 -- the clocks after a call that sends
 called_clock : (c : Clock) → IsClock c → IsClock (record c { seq = c.seq + 1 })
 called_clock c is = record { fed = is.fed; dues = is.dues; event = is.event }
@@ -187,7 +172,7 @@ new_from cs f (d ∷ ds) (l ∷ ls) seats numbered =
 pub nothing_made : (cs : List Clock) (ls : List FedLog) (f : ℕ) → AreKept cs ls → map (taken_back f (clock_at cs f).seq) cs ≡ cs
 nothing_made cs ls f kept = new_from cs f cs ls kept.seats kept.numbered
 
--- the state after a publish
+-- the state after a call that sends
 pub record IsPublished (s : State) (b : Bool) (ds : List Clock) (ls : List FedLog) (f : ℕ) (items : List Parcel) : Type 0 where
   pub kept : AreKept ds ls
   pub state : state_of b ds ls ≡ with_member s f (called_member (member_at s f)) (insert_all items s.items)
@@ -230,61 +215,40 @@ published s b cs ds ls f items kept is within made now clocks =
     } in
     subst (λ (xs : List Clock). IsPublished s b xs ls f items) (sym now) done
 
--- what the clocks must be for a publish
-pub record MayPublish (cs : List Clock) (f : ℕ) (targets : List EndRef) : Type 0 where
+-- what the clocks must be for a call that makes these items
+pub record MayCall (cs : List Clock) (f : ℕ) (items : List Parcel) : Type 0 where
   pub within : f < length cs
   pub clocks : AreClocks cs
-  pub limits : MaySend (clock_at cs f)
-  pub known : Each (λ e. e.fed < length cs) targets
+  pub count : (clock_at cs f).seq < 2 ^ 32
+  pub made : AreMade (length cs) f (clock_at cs f).seq items
   pub new : map (taken_back f (clock_at cs f).seq) cs ≡ cs
 
-pub may_publish : (s : State) (b : Bool) (cs : List Clock) (ls : List FedLog) (f : ℕ) (targets : List EndRef) → AreKept cs ls → state_of b cs ls ≡ s → f < length s.members →
-    limit_refusal (member_at s f) ≡ None → Each (λ e. e.fed < length s.members) targets → MayPublish cs f targets
-may_publish s b cs ls f targets kept is known limits targeted =
+pub may_call : (s : State) (b : Bool) (cs : List Clock) (ls : List FedLog) (f : ℕ) (items : List Parcel) → AreKept cs ls → state_of b cs ls ≡ s → f < length s.members →
+    limit_refusal (member_at s f) ≡ None → AreMade (length s.members) f (member_at s f).seq items → MayCall cs f items
+may_call s b cs ls f items kept is known limits made =
     let same = joined_length cs ls kept.seats in
     let all : length (joined cs ls) ≡ length s.members = ap (λ (t : State). length t.members) is in
     let within : f < length cs = omega (arith, same, all, known) in
     let member : member_of (clock_at cs f) (log_at ls f) ≡ member_at s f = sym (member_is b cs ls f kept within) ∙ ap (λ (t : State). member_at t f) is in
-    let clocks : AreClocks cs = clocks_of cs ls kept.seats in
+    let seq : (clock_at cs f).seq ≡ (member_at s f).seq = ap (λ (m : Member). m.seq) member in
     record {
       within = within;
-      clocks = clocks;
-      limits = below (clock_at cs f) (log_at ls f) (clock_in cs f blank_clock clocks within).fed (ap limit_refusal member ∙ limits);
-      known = λ e among. (let less = targeted e among in omega (arith, less, same, all));
+      clocks = clocks_of cs ls kept.seats;
+      count = sends_few (clock_at cs f).time (clock_at cs f).seq (ap limit_refusal member ∙ limits);
+      made = λ i among. (let m = made i among in let less : i.target < length s.members = m.0 in (omega (arith, less, same, all), m.1, m.2 ∙ sym seq));
       new = nothing_made cs ls f kept;
     }
-  where
-    below : (c : Clock) (l : FedLog) → IsFed c.time → limit_refusal (member_of c l) ≡ None → MaySend c
-    below c l fed none = let lawful = fed.time in record { time = grind (arith, nat_tests); micro = grind (arith, nat_tests); count = grind (arith, nat_tests) }
 
--- the state after a publish for which memory may have been wanting
+-- the state after a call for which memory may have been wanting
 pub record IsTried {T E : Type 0} (r : Result T E) (s : State) (b : Bool) (ds : List Clock) (ls : List FedLog) (f : ℕ) (items : List Parcel) : Type 0 where
   pub kept : AreKept ds ls
   pub state : OnOk r (state_of b ds ls ≡ with_member s f (called_member (member_at s f)) (insert_all items s.items))
   pub same : OnErr r (state_of b ds ls ≡ s)
 
--- the items of a publish of this member
-abbrev pub items_over : Member → EndRef → Value → List EndRef → List Parcel
-items_over m publication value targets = map (item_of m.time publication.fed m.seq) (map (leg_to publication value) targets)
-
-pub tried : {T E : Type 0} (r : Result T E) (s : State) (b : Bool) (cs ds : List Clock) (ls : List FedLog) (publication : EndRef) (value : Value) (targets : List EndRef) → AreKept cs ls →
-    state_of b cs ls ≡ s → MayPublish cs publication.fed targets →
-    OnOk r (
-    let c = clock_at cs publication.fed in
-    ds ≡ called_at publication.fed (put_all (map (item_of c.time publication.fed c.seq) (map (leg_to publication value) targets)) cs)) →
-    OnOk r (AreClocks ds) → OnErr r (ds ≡ cs) →
-    IsTried r s b ds ls publication.fed (items_over (member_at s publication.fed) publication value targets)
-tried (Ok done) s b cs ds ls publication value targets kept is may now clocks err =
-    let f : ℕ = publication.fed in
-    let c : Clock = clock_at cs f in
-    let m : Member = member_of c (log_at ls f) in
-    let member : m ≡ member_at s f = sym (member_is b cs ls f kept may.within) ∙ ap (λ (t : State). member_at t f) is in
-    let made = items_made c.time f c.seq (length cs) publication value targets may.known in
-    let done = published s b cs ds ls f (items_over m publication value targets) kept is may.within made now clocks in
-    record {
-      kept = done.kept;
-      state = done.state ∙ ap (λ (x : Member). with_member s f (called_member (member_at s f)) (insert_all (items_over x publication value targets) s.items)) member;
-      same = tt;
-    }
-tried (Err e) s b cs ds ls publication value targets kept is may now clocks err =
+pub tried : {T E : Type 0} (r : Result T E) (s : State) (b : Bool) (cs ds : List Clock) (ls : List FedLog) (f : ℕ) (items : List Parcel) → AreKept cs ls →
+    state_of b cs ls ≡ s → MayCall cs f items → OnOk r (ds ≡ called_at f (put_all items cs)) → OnOk r (AreClocks ds) → OnErr r (ds ≡ cs) → IsTried r s b ds ls f items
+tried (Ok done) s b cs ds ls f items kept is may now clocks err =
+    let done = published s b cs ds ls f items kept is may.within may.made now clocks in
+    record { kept = done.kept; state = done.state; same = tt }
+tried (Err e) s b cs ds ls f items kept is may now clocks err =
     record { kept = subst (λ (xs : List Clock). AreKept xs ls) (sym err) kept; state = tt; same = ap (λ (xs : List Clock). state_of b xs ls) err ∙ is }

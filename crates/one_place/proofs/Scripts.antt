@@ -1,17 +1,19 @@
 -- Calls of scripts, and who may act.
-use Rattle.std.proofs.Common.{◌≡◌, ◌<◌, ◌≤◌, ℕ, zero, true, false, List, [], ◌∷◌, length, Option, Some, None, refl, ap, ◌∙◌, arith, inl, inr, subst}
-use Rattle.std.specs.Prelude.{nat_lt, if◌then◌else◌, option_map, slice_get, drop, Result, Ok, Err}
+use Rattle.std.proofs.Common.{◌≡◌, ◌<◌, ◌≤◌, ◌+◌, ℕ, zero, sym, true, false, List, [], ◌∷◌, length, Option, Some, None, refl, ap, ◌∙◌, arith, inl, inr, subst}
+use Rattle.std.specs.Prelude.{nat_lt, if◌then◌else◌, option_map, is_some, unwrap_or, slice_get, drop, Result, Ok, Err}
 use Rattle.std.specs.Result.{IfOk}
-use Rattle.std.proofs.lemmas.Bool.{cases_lt, false≢true}
+use Rattle.std.proofs.lemmas.Bool.{cases_Bool, cases_lt, false≢true, true≢false}
 use Rattle.std.proofs.lemmas.Bool.Decides.{nat_tests}
 use Rattle.std.proofs.lemmas.List.{get_or_past}
 use Rattle.hel_values.specs.Limits.{data_limit}
+use Rattle.hel_values.specs.declared.EndRef.{EndRef}
 use Rattle.fed_script.specs.declared.action.Action.{Action}
 use Rattle.fed_script.specs.declared.action.Action.TheVariants.{Publish as Publishes, Send as Sends, Request as Requests, Finish as Finishes, Fail as Fails}
 use Rattle.fed_script.specs.declared.word.Word.{Word}
 use Rattle.fed_script.specs.declared.word.Word.TheVariants.{Publish, PublishSum, Send, Echo, Request, Advance, Iterate, Finish, Fail}
-use Rattle.fed_script.specs.View.{Sight, taken as taken_letter}
-use Rattle.fed_script.specs.Script.{Course, IsInitial, IsCourse, HasTime, given_from, words_after, seen_after, view_after}
+use Rattle.endpoint_messages.specs.declared.Letter.{Letter}
+use Rattle.fed_script.specs.View.{Sight, letters_at}
+use Rattle.fed_script.specs.Script.{Course, IsInitial, IsCourse, HasTime, gives, echo_of, given_from, first_action, next_action, behind, behind_first, is_echo, echo_first, answers, words_after, seen_after, view_after}
 use Rattle.fed_script.specs.Laws.{letters_left}
 use Rattle.fed_script.proofs.Passing.{keep_times_after}
 use Rattle.fed_script.proofs.Turns.{progresses}
@@ -109,13 +111,14 @@ initializing Waiting calls other = absurd (false≢true calls)
 initializing (PhaseEnded cause) calls other = absurd (false≢true calls)
 
 -- its first call is the first initial action that is left, or to enter
-pub first_call : (initial : List Action) (words : List Word) (v : Sight) (action : Action) → slice_get initial 0 ≡ Some action → call_of initial words v [] zero ≡ doing_of action
-first_call [] words v action is = cc
-first_call (x ∷ initial) words v action is = let same : x ≡ action = cc in ap doing_of same
+pub first_call : (names : EndRef → List ℕ) (initial : List Action) (words : List Word) (v : Sight) (action : Action) → slice_get initial 0 ≡ Some action →
+    call_of names initial words v [] zero ≡ doing_of action
+first_call names [] words v action is = cc
+first_call names (x ∷ initial) words v action is = let same : x ≡ action = cc in ap doing_of same
 
-pub entering_call : (initial : List Action) (words : List Word) (v : Sight) → slice_get initial 0 ≡ None → call_of initial words v [] zero ≡ enters
-entering_call [] words v is = refl
-entering_call (x ∷ initial) words v is = cc
+pub entering_call : (names : EndRef → List ℕ) (initial : List Action) (words : List Word) (v : Sight) → slice_get initial 0 ≡ None → call_of names initial words v [] zero ≡ enters
+entering_call names [] words v is = refl
+entering_call names (x ∷ initial) words v is = cc
 
 -- an initial action asks for no time
 pub initial_time : (initial : List Action) (action : Action) → IsInitial initial → slice_get initial 0 ≡ Some action → HasTime action
@@ -141,28 +144,107 @@ initial_passed c is = record { initial = initial_rest c.initial is.initial; time
 pub words_passed : (c : Course) (v : Sight) → IsCourse c → IsCourse (record c { words = words_after c.words v })
 words_passed c v is = record { initial = is.initial; times = keep_times_after c.words v is.times }
 
--- without inboxes none comes by an action
-pub seen_letters : (v : Sight) (words : List Word) → v.inboxes ≡ [] → (view_after words v).inboxes ≡ []
-seen_letters v words none = go (given_from words v)
-  where
-    taken : (endpoint : ℕ) → (taken_letter v endpoint).inboxes ≡ []
-    taken endpoint = rw none refl
-
-    go : (given : List Word) → (seen_after v given).inboxes ≡ []
-    go [] = none
-    go (Publish publication value ∷ more) = none
-    go (PublishSum publication input add ∷ more) = none
-    go (Send endpoint destination payload ∷ more) = none
-    go (Echo endpoint ∷ more) = taken endpoint
-    go (Request time ∷ more) = none
-    go (Advance by ∷ more) = none
-    go (Iterate time mode ∷ more) = none
-    go (Finish ∷ more) = none
-    go (Fail text ∷ more) = none
-
--- and each action leaves fewer words
-pub words_fall : (word : Word) (words : List Word) (v : Sight) → v.inboxes ≡ [] → length (words_after (word ∷ words) v) < length (word ∷ words)
-words_fall word words v none = elim (progresses (word ∷ words) v (λ is. cc)) [
-  | inl fewer ↦ fewer
-  | inr letter ↦ let no : letters_left v ≡ 0 = rw none refl in let left = letter.1 in absurd (omega (arith, no, left))
+-- what gives something is no more than all
+given_no_more : (words : List Word) (v : Sight) → length (given_from words v) ≤ length words
+given_no_more [] v = omega arith
+given_no_more (word ∷ words) v = elim (cases_Bool (gives v word)) [
+  | inl given ↦ rw given (omega arith)
+  | inr idle ↦ rw idle (let more = given_no_more words v in omega (arith, more))
 ]
+
+-- an action that answers no letter leaves fewer words
+pub words_fall : (words : List Word) (v : Sight) (action : Action) → answers words v ≡ false → next_action words v ≡ action → (action ≡ Finishes → ⊥) →
+    length (words_after words v) < length words
+words_fall words v action idle next other = go (given_from words v) refl idle
+  where
+    go : (given : List Word) → given_from words v ≡ given → echo_first given ≡ false → length (behind_first (given_from words v)) < length words
+    go [] is isnt = absurd (other (sym next ∙ ap (λ (ws : List Word). first_action ws v) is))
+    go (word ∷ more) is isnt =
+        let all = given_no_more words v in
+        let many : length (given_from words v) ≡ length (word ∷ more) = ap length is in
+        let left : length (behind_first (given_from words v)) ≡ length (behind word more) = ap (λ (ws : List Word). length (behind_first ws)) is in
+        let rest = passes word more isnt in
+        omega (arith, all, many, left, rest)
+      where
+        passes : (word : Word) (more : List Word) → is_echo word ≡ false → length (behind word more) ≡ length more
+        passes (Publish publication value) more isnt = refl
+        passes (PublishSum publication input add) more isnt = refl
+        passes (Send endpoint destination payload) more isnt = refl
+        passes (Echo endpoint) more isnt = absurd (true≢false isnt)
+        passes (Request time) more isnt = refl
+        passes (Advance by) more isnt = refl
+        passes (Iterate time mode) more isnt = refl
+        passes Finish more isnt = refl
+        passes (Fail text) more isnt = refl
+
+-- the first word that gives something does so
+given_gives : (words : List Word) (v : Sight) (word : Word) (more : List Word) → given_from words v ≡ word ∷ more → gives v word ≡ true
+given_gives [] v word more is = cc
+given_gives (first ∷ words) v word more is = elim (cases_Bool (gives v first)) [
+  | inl given ↦ let cut = rw given at is in let same : first ≡ word = cc in ap (gives v) (sym same) ∙ given
+  | inr idle ↦ let cut = rw idle at is in given_gives words v word more cut
+]
+
+-- what answers a letter is a send
+pub answer_sends : (words : List Word) (v : Sight) → answers words v ≡ true → (endpoint : ℕ) × (to : List ℕ) × (payload : List ℕ) × (next_action words v ≡ Sends endpoint to payload)
+answer_sends words v answering = go (given_from words v) refl answering
+  where
+    sends : (endpoint : ℕ) (letters : List Letter) → is_some (echo_of endpoint letters) ≡ true →
+        (e : ℕ) × (to : List ℕ) × (payload : List ℕ) × (unwrap_or (echo_of endpoint letters) Finishes ≡ Sends e to payload)
+    sends endpoint [] some = absurd (false≢true some)
+    sends endpoint (letter ∷ letters) some = (endpoint, letter.source, letter.payload, refl)
+
+    go : (given : List Word) → given_from words v ≡ given → echo_first given ≡ true → (e : ℕ) × (to : List ℕ) × (payload : List ℕ) × (first_action (given_from words v) v ≡ Sends e to payload)
+    go [] is holds = absurd (false≢true holds)
+    go (Echo endpoint ∷ more) is holds =
+        let sent = sends endpoint (letters_at v endpoint) (given_gives words v (Echo endpoint) more is) in
+        (sent.0, sent.1, sent.2, ap (λ (ws : List Word). first_action ws v) is ∙ sent.3)
+    go (Publish publication value ∷ more) is holds = absurd (false≢true holds)
+    go (PublishSum publication input add ∷ more) is holds = absurd (false≢true holds)
+    go (Send endpoint destination payload ∷ more) is holds = absurd (false≢true holds)
+    go (Request time ∷ more) is holds = absurd (false≢true holds)
+    go (Advance by ∷ more) is holds = absurd (false≢true holds)
+    go (Iterate time mode ∷ more) is holds = absurd (false≢true holds)
+    go (Finish ∷ more) is holds = absurd (false≢true holds)
+    go (Fail text ∷ more) is holds = absurd (false≢true holds)
+
+-- it leaves no more words, and a letter less
+given_twice : (words : List Word) (v : Sight) → given_from (given_from words v) v ≡ given_from words v
+given_twice [] v = refl
+given_twice (word ∷ words) v = elim (cases_Bool (gives v word)) [
+  | inl given ↦ rw (given, given) refl
+  | inr idle ↦ rw idle (given_twice words v)
+]
+
+pub answer_leaves : (words : List Word) (v : Sight) → answers words v ≡ true → (length (words_after words v) ≤ length words) × (letters_left (view_after words v) + 1 ≡ letters_left v)
+answer_leaves words v answering = go (given_from words v) refl answering
+  where
+    given : List Word
+    given = given_from words v
+
+    stays : words_after given v ≡ words_after words v
+    stays = ap behind_first (given_twice words v)
+
+    seen : view_after given v ≡ view_after words v
+    seen = ap (seen_after v) (given_twice words v)
+
+    go : (ws : List Word) → given ≡ ws → echo_first ws ≡ true → (length (words_after words v) ≤ length words) × (letters_left (view_after words v) + 1 ≡ letters_left v)
+    go [] is holds = absurd (false≢true holds)
+    go (Echo endpoint ∷ more) is holds =
+        let all = given_no_more words v in
+        let left : words_after words v ≡ given = ap behind_first is ∙ sym is in
+        let count : length (words_after words v) ≡ length given = ap length left in (
+          omega (arith, all, count),
+          elim (progresses given v (λ none. let isnt : Echo endpoint ∷ more ≡ [] = sym is ∙ none in cc)) [
+            | inl fewer ↦ let same : length (words_after given v) ≡ length (words_after words v) = ap length stays in absurd (omega (arith, fewer, same, count))
+            | inr letter ↦ ap (λ (w : Sight). letters_left w + 1) (sym seen) ∙ letter.1
+          ],
+        )
+    go (Publish publication value ∷ more) is holds = absurd (false≢true holds)
+    go (PublishSum publication input add ∷ more) is holds = absurd (false≢true holds)
+    go (Send endpoint destination payload ∷ more) is holds = absurd (false≢true holds)
+    go (Request time ∷ more) is holds = absurd (false≢true holds)
+    go (Advance by ∷ more) is holds = absurd (false≢true holds)
+    go (Iterate time mode ∷ more) is holds = absurd (false≢true holds)
+    go (Finish ∷ more) is holds = absurd (false≢true holds)
+    go (Fail text ∷ more) is holds = absurd (false≢true holds)

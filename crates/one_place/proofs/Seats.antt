@@ -1,5 +1,5 @@
 -- Clocks and logs, read and written at one place.
-use Rattle.std.proofs.Common.{◌≡◌, ℕ, zero, suc, ◌+◌, ◌<◌, ◌≤◌, Bool, not, List, [], ◌∷◌, ◌++◌, length, take, drop, refl, ap, ◌∙◌, sym, subst, arith, inl, inr}
+use Rattle.std.proofs.Common.{◌≡◌, ℕ, zero, suc, ◌+◌, ◌<◌, ◌≤◌, Bool, true, false, not, List, [], ◌∷◌, ◌++◌, length, take, drop, refl, ap, ◌∙◌, sym, subst, arith, inl, inr}
 use Rattle.std.specs.Prelude.{slice_set, slice_index_or, map, replicate, Result, Ok, Err, Option, Some, None, IfSome, is_some, nat_lt}
 use Rattle.std.specs.Result.{OnOk, OnErr}
 use Rattle.std.specs.List.{filter}
@@ -14,9 +14,12 @@ use Rattle.time_state.specs.Fed.{cut_of, event_of, is_live, zero_stamp}
 use Rattle.time_state.specs.declared.Phase.{Phase}
 use Rattle.time_state.specs.declared.Phase.TheVariants.{Created, Initializing, Entering, Running, Waiting, Ended}
 use Rattle.machine_laws.specs.declared.logs.FedLog.{FedLog}
-use Rattle.machine_laws.specs.Machine.{Member, State, blank_member, member_at, event_in, cut_in, dues_to, is_to, is_handed, is_left, handed_in, left_in, with_member, begun_member, granted_member, log_of}
+use Rattle.helics_time.specs.Settings.{Terms, IsTerms}
+use Rattle.interface_names.specs.declared.records.FederateRecord.{FederateRecord}
+use Rattle.federation_plan.specs.Plan.{IsKept}
+use Rattle.machine_laws.specs.Machine.{Member, State, new_member, blank_member, member_at, event_in, cut_in, dues_to, is_to, is_handed, is_left, handed_in, left_in, with_member, begun_member, granted_member, log_of}
 use Rattle.one_place.specs.declared.seat.Clock.{Clock}
-use Rattle.one_place.specs.Members.{member_of, dues_of, IsSeat, IsSeatOf, IsClockOf, AreSeats, AreClocks, AreKept, joined, gathered, state_of, blank_clock, blank_log, clock_at, log_at, halted_member}
+use Rattle.one_place.specs.Members.{member_of, dues_of, IsSeat, IsSeatOf, IsClockOf, AreSeats, AreClocks, AreKept, joined, gathered, state_of, blank_clock, blank_log, clock_at, log_at, new_clock, new_clocks, halted_if}
 use Rattle.one_place.proofs.Events.{new_fed}
 use Rattle.one_place.proofs.Mapped.{map_next}
 use Rattle.one_place.proofs.Gathered.{queued_set, own_queue, queue_is, handed_is, left_is, gathered_same, none_gathered, none_queued}
@@ -84,23 +87,23 @@ logs_joined (c ∷ cs) [] seats = absurd seats
 logs_joined (c ∷ cs) (l ∷ ls) seats = λ i. record { entries = l.entries; end = seats.0.ends i } ∷ logs_joined cs ls seats.1 i
 
 -- federates at the beginning
-new_seat : IsSeat blank_clock blank_log
-new_seat = record { clock = record { fed = new_fed; dues = λ i none. absurd none; event = refl }; ends = refl }
+new_seat : (terms : Terms) → IsTerms terms → IsSeat (new_clock terms) blank_log
+new_seat terms is = record { clock = record { fed = new_fed terms is; dues = λ i none. absurd none; event = refl }; ends = refl }
 
-pub new_seats : (n : ℕ) → AreSeats (replicate n blank_clock) (replicate n blank_log)
-new_seats zero = tt
-new_seats (suc n) = (new_seat, new_seats n)
+pub new_seats : (feds : List FederateRecord) → Each IsKept feds → AreSeats (new_clocks feds) (replicate (length feds) blank_log)
+new_seats [] kept = tt
+new_seats (fed ∷ feds) kept = (new_seat fed.settings (kept fed (inl refl)).terms, new_seats feds (λ f among. kept f (inr among)))
 
-pub new_joined : (n : ℕ) → joined (replicate n blank_clock) (replicate n blank_log) ≡ replicate n blank_member
+pub new_joined : (feds : List FederateRecord) → joined (new_clocks feds) (replicate (length feds) blank_log) ≡ map new_member (map (λ (f : FederateRecord). f.settings) feds)
 unfolding joined
-new_joined zero = refl
-new_joined (suc n) = ap (λ (ms : List Member). blank_member ∷ ms) (new_joined n)
+new_joined [] = refl
+new_joined (fed ∷ feds) = ap (λ (ms : List Member). new_member fed.settings ∷ ms) (new_joined feds)
 
-pub new_kept : (n : ℕ) → AreKept (replicate n blank_clock) (replicate n blank_log)
-new_kept n = record {
-  seats = new_seats n;
-  queued = none_queued 0 n;
-  numbered = subst (λ (items : List Parcel). Each (λ i. i.seq < (clock_at (replicate n blank_clock) i.source).seq) items) (sym (none_gathered n)) (λ i none. absurd none);
+pub new_kept : (feds : List FederateRecord) → Each IsKept feds → AreKept (new_clocks feds) (replicate (length feds) blank_log)
+new_kept feds kept = record {
+  seats = new_seats feds kept;
+  queued = none_queued 0 feds;
+  numbered = subst (λ (items : List Parcel). Each (λ i. i.seq < (clock_at (new_clocks feds) i.source).seq) items) (sym (none_gathered feds)) (λ i none. absurd none);
 }
 
 -- the clocks of seats
@@ -147,6 +150,13 @@ clock_past s b cs ls f kept is over =
     let same = joined_length cs ls kept.seats in
     let all : length (joined cs ls) ≡ length s.members = ap (λ (t : State). length t.members) is in
     omega (arith, same, all, over)
+
+-- a federate of the state has a clock
+pub clocks_count : (s : State) (b : Bool) (cs : List Clock) (ls : List FedLog) (f : ℕ) → AreKept cs ls → state_of b cs ls ≡ s → f < length s.members → f < length cs
+clocks_count s b cs ls f kept is known =
+    let same = joined_length cs ls kept.seats in
+    let all : length (joined cs ls) ≡ length s.members = ap (λ (t : State). length t.members) is in
+    omega (arith, same, all, known)
 
 -- a federate that there isn't acts at once, and has sent nothing
 pub strange_seq : (s : State) (f : ℕ) → length s.members ≤ f → 0 ≡ (member_at s f).seq
@@ -243,8 +253,9 @@ begun_seq m = by_phase m.time.phase refl
     by_phase Waiting is = rw is refl
     by_phase (Ended cause) is = rw is refl
 
-pub halted_seq : (f : ℕ) (m : Member) → (halted_member f m).seq ≡ m.seq
-halted_seq f m = elim (cases_Bool (is_live m.time.phase)) [ inl lives ↦ rw lives refl | inr ended ↦ rw ended refl ]
+pub halted_seq : (there : Bool) (f : ℕ) (m : Member) → (halted_if there f m).seq ≡ m.seq
+halted_seq true f m = elim (cases_Bool (is_live m.time.phase)) [ inl lives ↦ rw lives refl | inr ended ↦ rw ended refl ]
+halted_seq false f m = refl
 
 -- with what a cut leaves of it
 pub placed_left : (b : Bool) (cs : List Clock) (ls : List FedLog) (i : ℕ) (c : Clock) (l : FedLog) (m : Member) (cut : At) → AreKept cs ls → i < length cs →

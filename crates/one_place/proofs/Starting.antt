@@ -6,32 +6,34 @@ use Rattle.hel_lists.specs.Members.{Each}
 use Rattle.helics_time.specs.Settings.{Terms}
 use Rattle.fed_script.specs.Script.{Course, IsCourse}
 use Rattle.machine_laws.specs.declared.logs.FedLog.{FedLog}
-use Rattle.machine_laws.specs.Machine.{State, Member, begun_member, new_member, blank_member, default_terms, logs_of}
+use Rattle.machine_laws.specs.Machine.{State, Member, begun_member, new_member, blank_member, logs_of}
 use Rattle.machine_laws.specs.Moves.{Play, opening_play}
 use Rattle.one_place.specs.declared.actor.Actor.{Actor}
-use Rattle.one_place.specs.declared.plan.Federate.{Federate}
-use Rattle.one_place.specs.Plan.{Federation, inputs_of, wires_of}
-use Rattle.one_place.specs.Reference.{course_at, first_sight, plays_of, HasReferenceLogs}
+use Rattle.interface_names.specs.declared.records.FederateRecord.{FederateRecord}
+use Rattle.federation_plan.specs.Interfaces.{federate_at}
+use Rattle.federation_plan.specs.Plan.{Federation}
+use Rattle.federation_plan.specs.Wires.{wires_of}
+use Rattle.one_place.specs.Reference.{names_in, course_at, first_sight, plays_of, HasReferenceLogs}
 use Rattle.one_place.specs.Run.{play_of, IsActor, AreActors, Goes, AreFollowing, actor_at, first_actors, PlaysOut, begun_stage}
 
 -- one actor for each federate
-actors_count : (feds : List Federate) (scripts : List Course) → length scripts ≡ length feds → length (first_actors feds scripts) ≡ length feds
+actors_count : (feds : List FederateRecord) (scripts : List Course) → length scripts ≡ length feds → length (first_actors feds scripts) ≡ length feds
 actors_count [] scripts same = refl
 actors_count (fed ∷ feds) [] same = cc
 actors_count (fed ∷ feds) (script ∷ scripts) same = ap suc (actors_count feds scripts (omega (arith, same)))
 
-members_count : (feds : List Federate) → length (map begun_member (map new_member (map (λ (fed : Federate). default_terms) feds))) ≡ length feds
+members_count : (feds : List FederateRecord) → length (map begun_member (map new_member (map (λ (fed : FederateRecord). fed.settings) feds))) ≡ length feds
 members_count [] = refl
 members_count (fed ∷ feds) = ap suc (members_count feds)
 
 begun_count : (p : Federation) → length (begun_stage p).state.members ≡ length p.federates
 begun_count p = members_count p.federates
 
-first_ready : (feds : List Federate) (scripts : List Course) → Each IsCourse scripts → Each IsActor (first_actors feds scripts)
+first_ready : (feds : List FederateRecord) (scripts : List Course) → Each IsCourse scripts → Each IsActor (first_actors feds scripts)
 first_ready [] scripts rules a among = absurd among
 first_ready (fed ∷ feds) [] rules a among = absurd among
 first_ready (fed ∷ feds) (script ∷ scripts) rules a among = elim among [
-  | inl here ↦ subst IsActor (sym here) (record { rules = rules script (inl refl); letters = refl })
+  | inl here ↦ subst IsActor (sym here) (record { rules = rules script (inl refl) })
   | inr later ↦ first_ready feds scripts (λ c is. rules c (inr is)) a later
 ]
 
@@ -39,17 +41,17 @@ pub first_are : (p : Federation) (scripts : List Course) → length scripts ≡ 
 first_are p scripts each rules = record { each = actors_count p.federates scripts each ∙ sym (begun_count p); all = first_ready p.federates scripts rules }
 
 -- one more actor
-pub actors_more : (feds : List Federate) (actors now : List Actor) (script : Course) (rest : List Course) (d : Federate) → length actors + length (script ∷ rest) ≡ length feds →
-    now ≡ actors ++ (record { script = script; view = first_sight (slice_index_or feds (length actors) d).inputs }) ∷ [] →
+pub actors_more : (feds : List FederateRecord) (actors now : List Actor) (script : Course) (rest : List Course) (d : FederateRecord) → length actors + length (script ∷ rest) ≡ length feds →
+    now ≡ actors ++ (record { script = script; view = first_sight (slice_index_or feds (length actors) d) }) ∷ [] →
     now ++ first_actors (drop (length now) feds) rest ≡ actors ++ first_actors (drop (length actors) feds) (script ∷ rest)
 actors_more feds actors now script rest d same is =
-    let new : Actor = record { script = script; view = first_sight (slice_index_or feds (length actors) d).inputs } in
+    let new : Actor = record { script = script; view = first_sight (slice_index_or feds (length actors) d) } in
     let many : length now ≡ length actors + 1 = ap length is ∙ length_push actors new in
     (λ i. is i ++ first_actors (drop (many i) feds) rest) ∙ append_assoc actors (new ∷ []) (first_actors (drop (length actors + 1) feds) rest)
-    ∙ ap (λ (xs : List Federate). actors ++ first_actors xs (script ∷ rest)) (sym (drop_more feds (length actors) d (omega (arith, same))))
+    ∙ ap (λ (xs : List FederateRecord). actors ++ first_actors xs (script ∷ rest)) (sym (drop_more feds (length actors) d (omega (arith, same))))
 
 -- which has its whole script before it
-first_at : (feds : List Federate) (scripts : List Course) (f : ℕ) → length scripts ≡ length feds → actor_at (first_actors feds scripts) f ≡ record { script = course_at scripts f; view = first_sight (inputs_of feds f) }
+first_at : (feds : List FederateRecord) (scripts : List Course) (f : ℕ) → length scripts ≡ length feds → actor_at (first_actors feds scripts) f ≡ record { script = course_at scripts f; view = first_sight (federate_at feds f) }
 first_at [] [] f same = refl
 first_at [] (script ∷ scripts) f same = cc
 first_at (fed ∷ feds) [] f same = cc
@@ -57,7 +59,7 @@ first_at (fed ∷ feds) (script ∷ scripts) zero same = refl
 first_at (fed ∷ feds) (script ∷ scripts) (suc f) same = first_at feds scripts f (omega (arith, same))
 
 -- and is Initializing
-begun_at : (feds : List Federate) (f : ℕ) → f < length feds → slice_index_or (map begun_member (map new_member (map (λ (fed : Federate). default_terms) feds))) f blank_member ≡ begun_member blank_member
+begun_at : (feds : List FederateRecord) (f : ℕ) → f < length feds → slice_index_or (map begun_member (map new_member (map (λ (fed : FederateRecord). fed.settings) feds))) f blank_member ≡ begun_member (new_member (federate_at feds f).settings)
 begun_at [] f within = absurd (omega arith)
 begun_at (fed ∷ feds) zero within = refl
 begun_at (fed ∷ feds) (suc f) within = begun_at feds f (omega arith)
@@ -68,10 +70,10 @@ none_called (suc n) zero = refl
 none_called (suc n) (suc f) = none_called n f
 
 -- no federate has called
-begun_calls : (p : Federation) → (opening_play (wires_of p)).calls ≡ replicate (length p.federates) 0
+pub begun_calls : (p : Federation) → (opening_play (wires_of p)).calls ≡ replicate (length p.federates) 0
 begun_calls p = none p.federates
   where
-    none : (feds : List Federate) → map {B = ℕ} (λ (s : Terms). 0) (map (λ (fed : Federate). default_terms) feds) ≡ replicate (length feds) 0
+    none : (feds : List FederateRecord) → map {B = ℕ} (λ (s : Terms). 0) (map (λ (fed : FederateRecord). fed.settings) feds) ≡ replicate (length feds) 0
     none [] = refl
     none (fed ∷ feds) = ap (λ (l : List ℕ). 0 ∷ l) (none feds)
 
@@ -80,7 +82,7 @@ count_calls zero = refl
 count_calls (suc n) = ap suc (count_calls n)
 
 pub first_follow : (p : Federation) (scripts : List Course) → length scripts ≡ length p.federates →
-    AreFollowing (plays_of p scripts) (begun_stage p).state (replicate (length p.federates) 0) (first_actors p.federates scripts)
+    AreFollowing (plays_of p scripts) (begun_stage p) (replicate (length p.federates) 0) (first_actors p.federates scripts)
 first_follow p scripts each =
     let n : ℕ = length p.federates in
     record {
@@ -88,12 +90,12 @@ first_follow p scripts each =
       go = λ f within.
           (let known : f < length p.federates = let all = begun_count p in omega (arith, within, all) in
           let member = begun_at p.federates f known in
-          subst (λ (m : Member). Goes (plays_of p scripts) f m (slice_index_or (replicate n 0) f 0) (actor_at (first_actors p.federates scripts) f)) (sym member)
-          (subst (λ k. Goes (plays_of p scripts) f (begun_member blank_member) k (actor_at (first_actors p.federates scripts) f)) (sym (none_called n f))
-          (subst (λ (a : Actor). Goes (plays_of p scripts) f (begun_member blank_member) 0 a) (sym (first_at p.federates scripts f each)) (at_first f))));
+          subst (λ (m : Member). Goes (names_in p) (plays_of p scripts) f m (slice_index_or (replicate n 0) f 0) (actor_at (first_actors p.federates scripts) f)) (sym member)
+          (subst (λ k. Goes (names_in p) (plays_of p scripts) f (begun_member (new_member (federate_at p.federates f).settings)) k (actor_at (first_actors p.federates scripts) f)) (sym (none_called n f))
+          (subst (λ (a : Actor). Goes (names_in p) (plays_of p scripts) f (begun_member (new_member (federate_at p.federates f).settings)) 0 a) (sym (first_at p.federates scripts f each)) (at_first f))));
     }
   where
-    at_first : (f : ℕ) → Goes (plays_of p scripts) f (begun_member blank_member) 0 (record { script = course_at scripts f; view = first_sight (inputs_of p.federates f) })
+    at_first : (f : ℕ) → Goes (names_in p) (plays_of p scripts) f (begun_member (new_member (federate_at p.federates f).settings)) 0 (record { script = course_at scripts f; view = first_sight (federate_at p.federates f) })
     at_first f lives more k = let same : 0 + k ≡ k = omega arith in ap (λ j. plays_of p scripts f j more) same
 
 -- what is played out to its end is the reference run

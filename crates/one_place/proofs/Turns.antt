@@ -1,5 +1,5 @@
 -- Turns of the reference run as moves of scripted federates.
-use Rattle.std.proofs.Common.{◌≡◌, ◌⊎◌, ◌<◌, ◌+◌, ℕ, zero, suc, Bool, true, false, List, [], ◌∷◌, ◌++◌, length, Option, Some, None, inl, inr, refl, sym, ◌∙◌, ap, subst, arith, append_assoc, length-set}
+use Rattle.std.proofs.Common.{◌≡◌, ◌⊎◌, ◌<◌, ◌≤◌, ◌+◌, ℕ, zero, suc, Bool, true, false, List, [], ◌∷◌, ◌++◌, length, Option, Some, None, inl, inr, refl, sym, ◌∙◌, ap, subst, arith, append_assoc, length-set}
 use Rattle.std.specs.Prelude.{slice_index_or, slice_set, option_map, is_none, if◌then◌else◌}
 use Rattle.std.proofs.lemmas.Bool.{cases_eq, cases_lt, false≢true, true≢false}
 use Rattle.std.proofs.lemmas.List.{append-nil, get_or-set_same, get_or-set_other, set-get_or}
@@ -7,8 +7,8 @@ use Rattle.hel_lists.specs.Members.{Each}
 use Rattle.time_state.specs.Fed.{is_asking, is_live}
 use Rattle.time_state.specs.declared.Phase.{Phase}
 use Rattle.time_state.specs.declared.Phase.TheVariants.{Created, Initializing, Entering, Running, Waiting, Ended}
-use Rattle.endpoint_messages.specs.declared.Letter.{Letter}
-use Rattle.fed_script.specs.View.{Sight, delivered, letters_in}
+use Rattle.hel_values.specs.declared.EndRef.{EndRef}
+use Rattle.fed_script.specs.View.{Sight}
 use Rattle.machine_laws.specs.declared.logs.LogEntry.{LogEntry}
 use Rattle.machine_laws.specs.declared.refusal.CallRefusal.{CallRefusal}
 use Rattle.machine_laws.specs.declared.refusal.Unlawful.{Unlawful}
@@ -18,13 +18,15 @@ use Rattle.machine_laws.specs.Machine.Step.{grant}
 use Rattle.machine_laws.specs.Moves.{Doing, Scripts, Play, step_by, or_failure, doing_refusal, call_by, calls_of, in_turn, if_lawful, is_call, moved, move}
 use Rattle.machine_laws.specs.Moves.Doing.{enters, makes, requests, finishes, fails}
 use Rattle.one_place.specs.declared.actor.Actor.{Actor}
-use Rattle.one_place.specs.Plan.{Federation, wires_of}
+use Rattle.federation_plan.specs.Plan.{Federation}
+use Rattle.federation_plan.specs.Wires.{wires_of}
 use Rattle.one_place.specs.Machine.{Stage}
-use Rattle.one_place.specs.Reference.{no_names, taken_over}
-use Rattle.one_place.specs.Run.{wires_at, play_of, may_move, is_calling, going, passed, calling_step, entry_in, step_at, actor_after, IsActor, AreActors, Goes, actor_at, AreFollowing, IsNextToMove, PlaysOut}
-use Rattle.one_place.proofs.Building.{each_at}
-use Rattle.one_place.proofs.Scripts.{calling_known, strange_stays, initial_passed, words_passed, seen_letters}
-use Rattle.one_place.proofs.Work.{weight, work, Called, work_falls, next_called}
+use Rattle.one_place.specs.Reference.{names_in, taken_over}
+use Rattle.one_place.specs.Run.{wires_at, names_at, play_of, may_move, is_calling, going, passed, calling_step, entry_in, step_at, actor_after, IsActor, AreActors, Goes, actor_at, AreFollowing, IsNextToMove, PlaysOut, GoesOn}
+use Rattle.one_place.specs.Work.{weight, work, letters, is_answering}
+use Rattle.one_place.proofs.Held.{each_at}
+use Rattle.one_place.proofs.Scripts.{calling_known, strange_stays, initial_passed, words_passed}
+use Rattle.one_place.proofs.Work.{Called, work_falls, work_stays, letters_fall, answered_letter, next_called}
 
 -- a call or a failure counts as a call
 counts : (p : Plan) (f : ℕ) (m : Member) (doing : Doing) → is_call (call_by p f m doing) ≡ true
@@ -83,13 +85,14 @@ live_not_ended : (q : Phase) → is_live q ≡ true → (c : _) → q ≡ Ended 
 live_not_ended q lives c ended = let no = rw ended at lives in false≢true no
 
 -- what a federate does now
-doing_now : (plays : Scripts) (f : ℕ) (m : Member) (calls : ℕ) (a : Actor) → Goes plays f m calls a → is_live m.time.phase ≡ true → plays f calls m.log ≡ going m.time.phase a [] zero
-doing_now plays f m calls a go lives =
+doing_now : (names : EndRef → List ℕ) (plays : Scripts) (f : ℕ) (m : Member) (calls : ℕ) (a : Actor) → Goes names plays f m calls a → is_live m.time.phase ≡ true →
+    plays f calls m.log ≡ going names m.time.phase a [] zero
+doing_now names plays f m calls a go lives =
     let at : calls + 0 ≡ calls = omega arith in
     sym (ap (λ k. plays f k (m.log ++ [])) at ∙ ap (plays f calls) (append-nil m.log)) ∙ go lives [] zero
 
 -- a federate that calls moves by its next call
-call_moves : (s : Stage) (plays : Scripts) (calls : List ℕ) (f : ℕ) (a : Actor) → Goes plays f (member_at s.state f) (slice_index_or calls f 0) a →
+call_moves : (s : Stage) (plays : Scripts) (calls : List ℕ) (f : ℕ) (a : Actor) → Goes (names_at s) plays f (member_at s.state f) (slice_index_or calls f 0) a →
     is_calling (member_at s.state f).time.phase ≡ true →
     move (wires_at s) plays f (play_of s calls)
     ≡ Some (record { state = after (wires_at s) s.state (calling_step s f a); calls = slice_set calls f (slice_index_or calls f 0 + 1) })
@@ -97,11 +100,11 @@ call_moves s plays cs f a go calling =
     let p : Plan = wires_at s in
     let w : Play = play_of s cs in
     let m : Member = member_at s.state f in
-    let doing : Doing = going m.time.phase a [] zero in
+    let doing : Doing = going (names_at s) m.time.phase a [] zero in
     let grants : Option Step = if_lawful (refusal_of p s.state (grant f)) (grant f) in
     let t : State = after p s.state (call_by p f m doing) in
     ap (λ (d : Doing). option_map (moved p w f) (in_turn m.time.phase (Some (call_by p f m d)) grants))
-    (doing_now plays f m (slice_index_or cs f 0) a go (calling_lives m.time.phase calling))
+    (doing_now (names_at s) plays f m (slice_index_or cs f 0) a go (calling_lives m.time.phase calling))
     ∙ ap (λ (step : Option Step). option_map (moved p w f) step) (calls_then m.time.phase (Some (call_by p f m doing)) grants calling)
     ∙ ap (λ (b : Bool). let next : Play = record { state = t; calls = if b then slice_set cs f (calls_of w f + 1) else cs } in Some next) (counts p f m doing)
 
@@ -117,7 +120,7 @@ grant_moves s plays cs f asking lawful =
     (asks_then m.time.phase (Some call) (if_lawful (refusal_of p s.state (grant f)) (grant f)) asking ∙ ap (λ (r : Option Unlawful). if_lawful r (grant f)) lawful)
 
 -- a federate that may not act doesn't move
-stays : (s : Stage) (plays : Scripts) (calls : List ℕ) (f : ℕ) → may_move s f ≡ false → move (wires_at s) plays f (play_of s calls) ≡ None
+pub stays : (s : Stage) (plays : Scripts) (calls : List ℕ) (f : ℕ) → may_move s f ≡ false → move (wires_at s) plays f (play_of s calls) ≡ None
 stays s plays cs f not = by_phase (member_at s.state f).time.phase refl
   where
     p : Plan
@@ -170,21 +173,12 @@ calls_or_asks s f may = by_phase (member_at s.state f).time.phase refl
 
 -- an actor keeps its facts as it goes on
 passed_actor : (q : Phase) (a : Actor) → IsActor a → IsActor (passed q a)
-passed_actor Running a is = record { rules = words_passed a.script a.view is.rules; letters = seen_letters a.view a.script.words is.letters }
-passed_actor Created a is = record { rules = initial_passed a.script is.rules; letters = is.letters }
-passed_actor Initializing a is = record { rules = initial_passed a.script is.rules; letters = is.letters }
-passed_actor Entering a is = record { rules = initial_passed a.script is.rules; letters = is.letters }
-passed_actor Waiting a is = record { rules = initial_passed a.script is.rules; letters = is.letters }
-passed_actor (Ended cause) a is = record { rules = initial_passed a.script is.rules; letters = is.letters }
-
--- without inboxes no letter comes by a grant
-none_delivered : (letters : List (ℕ × Letter)) → delivered [] letters ≡ []
-none_delivered [] = refl
-none_delivered (l ∷ letters) = none_delivered letters
-
-granted_actor : (a : Actor) (e : LogEntry) → IsActor a → IsActor (record a { view = taken_over a.view e })
-granted_actor a e is =
-    record { rules = is.rules; letters = ap (λ (inboxes : List (List Letter)). delivered inboxes (letters_in no_names e.items)) is.letters ∙ none_delivered (letters_in no_names e.items) }
+passed_actor Running a is = record { rules = words_passed a.script a.view is.rules }
+passed_actor Created a is = record { rules = initial_passed a.script is.rules }
+passed_actor Initializing a is = record { rules = initial_passed a.script is.rules }
+passed_actor Entering a is = record { rules = initial_passed a.script is.rules }
+passed_actor Waiting a is = record { rules = initial_passed a.script is.rules }
+passed_actor (Ended cause) a is = record { rules = initial_passed a.script is.rules }
 
 each_set : {A : Type 0} (P : A → Type 0) (xs : List A) (i : ℕ) (y : A) → Each P xs → P y → Each P (slice_set xs i y)
 each_set P [] i y each new x among = absurd among
@@ -201,47 +195,51 @@ actors_set s t actors f n b ready members is =
     record { each = length-set actors f b ∙ ready.each ∙ sym many; all = each_set IsActor actors f b ready.all is }
 
 -- what another federate does stays
-following_set : (plays : Scripts) (s t : State) (calls : List ℕ) (actors : List Actor) (f : ℕ) (n : Member) (c : ℕ) (b : Actor) → AreFollowing plays s calls actors →
-    length actors ≡ length s.members → f < length s.members → t.members ≡ slice_set s.members f n → Goes plays f n c b → AreFollowing plays t (slice_set calls f c) (slice_set actors f b)
-following_set plays s t cs actors f n c b follows each known members own =
-    let many : length t.members ≡ length s.members = ap length members ∙ length-set s.members f n in
-    let counted : length cs ≡ length s.members = follows.counts in
+following_set : (plays : Scripts) (s t : Stage) (calls : List ℕ) (actors : List Actor) (f : ℕ) (n : Member) (c : ℕ) (b : Actor) → AreFollowing plays s calls actors → t.plan ≡ s.plan →
+    length actors ≡ length s.state.members → f < length s.state.members → t.state.members ≡ slice_set s.state.members f n → Goes (names_at s) plays f n c b →
+    AreFollowing plays t (slice_set calls f c) (slice_set actors f b)
+following_set plays s t cs actors f n c b follows plan each known members own =
+    let many : length t.state.members ≡ length s.state.members = ap length members ∙ length-set s.state.members f n in
+    let counted : length cs ≡ length s.state.members = follows.counts in
+    let names : names_at t ≡ names_at s = ap names_in plan in
     record {
       counts = length-set cs f c ∙ counted ∙ sym many;
       go = λ g within. elim (cases_eq g f) [
         | inl same ↦
-            let member : member_at t g ≡ n = (λ i. slice_index_or (members i) (same i) blank_member) ∙ get_or-set_same s.members f n blank_member known in
+            let member : member_at t.state g ≡ n = (λ i. slice_index_or (members i) (same i) blank_member) ∙ get_or-set_same s.state.members f n blank_member known in
             let count : slice_index_or (slice_set cs f c) g 0 ≡ c = ap (λ k. slice_index_or (slice_set cs f c) k 0) same ∙ get_or-set_same cs f c 0 (omega (arith, known, counted)) in
             let actor : actor_at (slice_set actors f b) g ≡ b = ap (actor_at (slice_set actors f b)) same ∙ get_or-set_same actors f b _ (omega (arith, known, each)) in
-            subst (λ k. Goes plays k (member_at t g) (slice_index_or (slice_set cs f c) g 0) (actor_at (slice_set actors f b) g)) (sym same)
-            (subst (λ (m : Member). Goes plays f m (slice_index_or (slice_set cs f c) g 0) (actor_at (slice_set actors f b) g)) (sym member)
-            (subst (λ k. Goes plays f n k (actor_at (slice_set actors f b) g)) (sym count) (subst (λ (x : Actor). Goes plays f n c x) (sym actor) own)))
+            subst (λ (ns : EndRef → List ℕ). Goes ns plays g (member_at t.state g) (slice_index_or (slice_set cs f c) g 0) (actor_at (slice_set actors f b) g)) (sym names)
+            (subst (λ k. Goes (names_at s) plays k (member_at t.state g) (slice_index_or (slice_set cs f c) g 0) (actor_at (slice_set actors f b) g)) (sym same)
+            (subst (λ (m : Member). Goes (names_at s) plays f m (slice_index_or (slice_set cs f c) g 0) (actor_at (slice_set actors f b) g)) (sym member)
+            (subst (λ k. Goes (names_at s) plays f n k (actor_at (slice_set actors f b) g)) (sym count) (subst (λ (x : Actor). Goes (names_at s) plays f n c x) (sym actor) own))))
         | inr other ↦
-            let member : member_at t g ≡ member_at s g = ap (λ (ms : List Member). slice_index_or ms g blank_member) members ∙ get_or-set_other s.members f g n blank_member other in
+            let member : member_at t.state g ≡ member_at s.state g = ap (λ (ms : List Member). slice_index_or ms g blank_member) members ∙ get_or-set_other s.state.members f g n blank_member other in
             let count : slice_index_or (slice_set cs f c) g 0 ≡ slice_index_or cs g 0 = get_or-set_other cs f g c 0 other in
             let actor : actor_at (slice_set actors f b) g ≡ actor_at actors g = get_or-set_other actors f g b _ other in
-            subst (λ (m : Member). Goes plays g m (slice_index_or (slice_set cs f c) g 0) (actor_at (slice_set actors f b) g)) (sym member)
-            (subst (λ k. Goes plays g (member_at s g) k (actor_at (slice_set actors f b) g)) (sym count)
-            (subst (λ (x : Actor). Goes plays g (member_at s g) (slice_index_or cs g 0) x) (sym actor) (follows.go g (omega (arith, within, many)))))
+            subst (λ (ns : EndRef → List ℕ). Goes ns plays g (member_at t.state g) (slice_index_or (slice_set cs f c) g 0) (actor_at (slice_set actors f b) g)) (sym names)
+            (subst (λ (m : Member). Goes (names_at s) plays g m (slice_index_or (slice_set cs f c) g 0) (actor_at (slice_set actors f b) g)) (sym member)
+            (subst (λ k. Goes (names_at s) plays g (member_at s.state g) k (actor_at (slice_set actors f b) g)) (sym count)
+            (subst (λ (x : Actor). Goes (names_at s) plays g (member_at s.state g) (slice_index_or cs g 0) x) (sym actor) (follows.go g (omega (arith, within, many))))))
       ];
     }
 
 -- what a federate does after a call
-goes_called : (plays : Scripts) (s t : State) (f c : ℕ) (a : Actor) (called : Called s f a t) → Goes plays f (member_at s f) c a → is_calling (member_at s f).time.phase ≡ true →
-    Goes plays f called.member (c + 1) (passed (member_at s f).time.phase a)
-goes_called plays s t f c a called go calling lives more k =
+goes_called : (names : EndRef → List ℕ) (plays : Scripts) (s t : State) (f c : ℕ) (a : Actor) (called : Called names s f a t) → Goes names plays f (member_at s f) c a →
+    is_calling (member_at s f).time.phase ≡ true → Goes names plays f called.member (c + 1) (passed (member_at s f).time.phase a)
+goes_called names plays s t f c a called go calling lives more k =
     let at : c + 1 + k ≡ c + suc k = omega arith in
     (λ i. plays f (at i) (called.log i ++ more)) ∙ go (calling_lives (member_at s f).time.phase calling) more (suc k)
     ∙ called.goes (live_not_ended called.member.time.phase lives) more k
 
 -- and after a grant
-goes_granted : (plays : Scripts) (s : State) (f c : ℕ) (a : Actor) → Goes plays f (member_at s f) c a → is_asking (member_at s f).time.phase ≡ true →
-    Goes plays f (granted_member (member_at s f) (dues_to s.items f) (handed_in s f)) c (record a { view = taken_over a.view (entry_in s f) })
-goes_granted plays s f c a go asking lives more k =
+goes_granted : (names : EndRef → List ℕ) (plays : Scripts) (s : State) (f c : ℕ) (a : Actor) → Goes names plays f (member_at s f) c a → is_asking (member_at s f).time.phase ≡ true →
+    Goes names plays f (granted_member (member_at s f) (dues_to s.items f) (handed_in s f)) c (record a { view = taken_over names a.view (entry_in s f) })
+goes_granted names plays s f c a go asking lives more k =
     let m : Member = member_at s f in
     ap (plays f (c + k)) (append_assoc m.log (entry_in s f ∷ []) more) ∙ go (asking_lives m.time.phase asking) (entry_in s f ∷ more) k ∙ waited m.time.phase asking
   where
-    waited : (q : Phase) → is_asking q ≡ true → going q a (entry_in s f ∷ more) k ≡ going Running (record a { view = taken_over a.view (entry_in s f) }) more k
+    waited : (q : Phase) → is_asking q ≡ true → going names q a (entry_in s f ∷ more) k ≡ going names Running (record a { view = taken_over names a.view (entry_in s f) }) more k
     waited Entering asks = refl
     waited Waiting asks = refl
     waited Created asks = absurd (false≢true asks)
@@ -257,12 +255,22 @@ waiting_weight Initializing a v asks = absurd (false≢true asks)
 waiting_weight Running a v asks = absurd (false≢true asks)
 waiting_weight (Ended cause) a v asks = absurd (false≢true asks)
 
--- what one turn leaves: as many actors as members, less work, and a move of the scripts that they follow
+-- one that waits answers no letter
+asks_no_answer : (q : Phase) (a : Actor) → is_asking q ≡ true → is_answering q a ≡ true → ⊥
+asks_no_answer Running a asks holds = false≢true asks
+asks_no_answer Created a asks holds = false≢true holds
+asks_no_answer Initializing a asks holds = false≢true holds
+asks_no_answer Entering a asks holds = false≢true holds
+asks_no_answer Waiting a asks holds = false≢true holds
+asks_no_answer (Ended cause) a asks holds = false≢true holds
+
+-- what one turn leaves: as many actors as members, less work or a letter less, and a move of the scripts that they follow
 pub record IsTurned (s : Stage) (f : ℕ) (actors : List Actor) (t : Stage) (rest : List Actor) : Type 0 where
   pub ready : AreActors t.state rest
-  pub falls : work t.state.members rest < work s.state.members actors
-  pub moves : (plays : Scripts) (calls : List ℕ) → AreFollowing plays s.state calls actors →
-      (next : List ℕ) × (move (wires_at s) plays f (play_of s calls) ≡ Some (play_of t next)) × AreFollowing plays t.state next rest
+  pub falls : is_answering (member_at s.state f).time.phase (actor_at actors f) ≡ false → work t.state.members rest < work s.state.members actors
+  pub stays : is_answering (member_at s.state f).time.phase (actor_at actors f) ≡ true → (work t.state.members rest ≤ work s.state.members actors) × (letters rest < letters actors)
+  pub moves : (plays : Scripts) (calls : List ℕ) → AreFollowing plays s calls actors →
+      (next : List ℕ) × (move (wires_at s) plays f (play_of s calls) ≡ Some (play_of t next)) × AreFollowing plays t next rest
 
 called_turn : (s : Stage) (f : ℕ) (actors : List Actor) → AreActors s.state actors → is_calling (member_at s.state f).time.phase ≡ true →
     IsTurned s f actors (record s { state = after (wires_at s) s.state (calling_step s f (actor_at actors f)) }) (slice_set actors f (passed (member_at s.state f).time.phase (actor_at actors f)))
@@ -273,40 +281,47 @@ called_turn s f actors ready calling =
     let each : length actors ≡ length s.state.members = ready.each in
     let is : IsActor a = each_at IsActor actors f _ ready.all (omega (arith, known, each)) in
     let t : State = after (wires_at s) s.state (calling_step s f a) in
-    let called = next_called (wires_at s) s.state f a is calling in
+    let called = next_called (names_at s) (wires_at s) s.state f a is calling in
     record {
       ready = actors_set s.state t actors f called.member (passed q a) ready called.members (passed_actor q a is);
-      falls =
+      falls = λ idle.
           subst (λ (ms : List Member). work ms (slice_set actors f (passed q a)) < work s.state.members actors) (sym called.members)
-          (work_falls s.state.members actors f called.member (passed q a) _ each known called.falls);
+          (work_falls s.state.members actors f called.member (passed q a) _ each known (called.falls idle));
+      stays = λ answering. (
+        subst (λ (ms : List Member). work ms (slice_set actors f (passed q a)) ≤ work s.state.members actors) (sym called.members)
+            (work_stays s.state.members actors f called.member (passed q a) _ each known (called.stays answering)),
+        letters_fall actors f (passed q a) _ (omega (arith, known, each)) (answered_letter q a answering),
+      );
       moves = λ plays cs follows.
           (let go = follows.go f known in
-          let own = goes_called plays s.state t f (slice_index_or cs f 0) a called go calling in (
+          let own = goes_called (names_at s) plays s.state t f (slice_index_or cs f 0) a called go calling in (
             slice_set cs f (slice_index_or cs f 0 + 1),
             call_moves s plays cs f a go calling,
-            following_set plays s.state t cs actors f called.member (slice_index_or cs f 0 + 1) (passed q a) follows each known called.members own,
+            following_set plays s (record s { state = t }) cs actors f called.member (slice_index_or cs f 0 + 1) (passed q a) follows refl each known called.members own,
           ));
     }
 
 granted_turn : (s : Stage) (f : ℕ) (actors : List Actor) → AreActors s.state actors → MayTurn s f → f < length s.state.members →
-    IsTurned s f actors (record s { state = after (wires_at s) s.state (grant f) }) (slice_set actors f (record (actor_at actors f) { view = taken_over (actor_at actors f).view (entry_in s.state f) }))
+    IsTurned s f actors (record s { state = after (wires_at s) s.state (grant f) })
+    (slice_set actors f (record (actor_at actors f) { view = taken_over (names_at s) (actor_at actors f).view (entry_in s.state f) }))
 granted_turn s f actors ready may known =
     let a : Actor = actor_at actors f in
     let m : Member = member_at s.state f in
-    let b : Actor = record a { view = taken_over a.view (entry_in s.state f) } in
+    let b : Actor = record a { view = taken_over (names_at s) a.view (entry_in s.state f) } in
     let n : Member = granted_member m (dues_to s.state.items f) (handed_in s.state f) in
     let each : length actors ≡ length s.state.members = ready.each in
     let is : IsActor a = each_at IsActor actors f _ ready.all (omega (arith, known, each)) in
     let t : State = after (wires_at s) s.state (grant f) in
     record {
-      ready = actors_set s.state t actors f n b ready refl (granted_actor a (entry_in s.state f) is);
-      falls = work_falls s.state.members actors f n b _ each known (waiting_weight m.time.phase a b.view may.asks);
+      ready = actors_set s.state t actors f n b ready refl (record { rules = is.rules });
+      falls = λ idle. work_falls s.state.members actors f n b _ each known (waiting_weight m.time.phase a b.view may.asks);
+      stays = λ answering. absurd (asks_no_answer m.time.phase a may.asks answering);
       moves = λ plays cs follows.
-          (let own = goes_granted plays s.state f (slice_index_or cs f 0) a (follows.go f known) may.asks in (
+          (let own = goes_granted (names_at s) plays s.state f (slice_index_or cs f 0) a (follows.go f known) may.asks in (
             cs,
             grant_moves s plays cs f may.asks may.lawful,
-            subst (λ (xs : List ℕ). AreFollowing plays t xs (slice_set actors f b)) (set-get_or cs f 0)
-                (following_set plays s.state t cs actors f n (slice_index_or cs f 0) b follows each known refl own),
+            subst (λ (xs : List ℕ). AreFollowing plays (record s { state = t }) xs (slice_set actors f b)) (set-get_or cs f 0)
+                (following_set plays s (record s { state = t }) cs actors f n (slice_index_or cs f 0) b follows refl each known refl own),
           ));
     }
 
@@ -318,14 +333,14 @@ turned s t f actors rest ready may is left = elim (calls_or_asks s f may) [
       let a : Actor = actor_at actors f in
       let step : step_at s f a ≡ calling_step s f a = ap (λ (b : Bool). if b then calling_step s f a else grant f) calling in
       let actor : actor_after s f a ≡ passed (member_at s.state f).time.phase a =
-      ap (λ (c : Bool). if c then passed (member_at s.state f).time.phase a else (record a { view = taken_over a.view (entry_in s.state f) })) calling in
+      ap (λ (c : Bool). if c then passed (member_at s.state f).time.phase a else (record a { view = taken_over (names_at s) a.view (entry_in s.state f) })) calling in
       subst (λ (x : Stage). IsTurned s f actors x rest) (sym (is ∙ ap (λ (st : Step). record s { state = after (wires_at s) s.state st }) step))
       (subst (λ (xs : List Actor). IsTurned s f actors (record s { state = after (wires_at s) s.state (calling_step s f a) }) xs) (sym (left ∙ ap (slice_set actors f) actor))
       (called_turn s f actors ready calling))
   | inr asks ↦
       let a : Actor = actor_at actors f in
       let not = asking_calls_not (member_at s.state f).time.phase asks.asks in
-      let b : Actor = record a { view = taken_over a.view (entry_in s.state f) } in
+      let b : Actor = record a { view = taken_over (names_at s) a.view (entry_in s.state f) } in
       let step : step_at s f a ≡ grant f = ap (λ (c : Bool). if c then calling_step s f a else grant f) not in
       let actor : actor_after s f a ≡ b = ap (λ (c : Bool). if c then passed (member_at s.state f).time.phase a else b) not in
       subst (λ (x : Stage). IsTurned s f actors x rest) (sym (is ∙ ap (λ (st : Step). record s { state = after (wires_at s) s.state st }) step))
@@ -343,3 +358,29 @@ first_move s t plays cs ds f end next moves same rest =
 -- nobody moves any more
 pub no_move : (s : Stage) (plays : Scripts) (calls : List ℕ) → ((f : ℕ) → may_move s f ≡ false) → PlaysOut (wires_at s) plays (play_of s calls) (play_of s calls)
 no_move s plays cs none = ([], (refl, λ f. stays s plays cs f (none f)))
+
+-- the reference run goes on by turns of the next to move
+pub stays_there : (s : Stage) (actors : List Actor) → AreActors s.state actors → GoesOn s actors s actors
+stays_there s actors ready = record { plan = refl; ready = ready; more = λ plays cs follows. (cs, follows, (λ end out. out)) }
+
+pub goes_further : (s t u : Stage) (f : ℕ) (actors there rest : List Actor) → GoesOn s actors t there → IsNextToMove t f → u.plan ≡ t.plan → IsTurned t f there u rest → GoesOn s actors u rest
+goes_further s t u f actors there rest on next plan turn =
+    record {
+      plan = plan ∙ on.plan;
+      ready = turn.ready;
+      more = λ plays cs follows.
+          (let now = on.more plays cs follows in
+          let moved = turn.moves plays now.0 now.1 in
+          (moved.0, moved.2, (λ end out. now.2 end (first_move t u plays now.0 moved.0 f end next moved.1 plan out))));
+    }
+
+pub goes_through : (s t u : Stage) (actors there rest : List Actor) → GoesOn s actors t there → GoesOn t there u rest → GoesOn s actors u rest
+goes_through s t u actors there rest on then_on =
+    record {
+      plan = then_on.plan ∙ on.plan;
+      ready = then_on.ready;
+      more = λ plays cs follows.
+          (let now = on.more plays cs follows in
+          let later = then_on.more plays now.0 now.1 in
+          (later.0, later.1, (λ end out. now.2 end (later.2 end out))));
+    }

@@ -1,21 +1,18 @@
--- Laws of plans and of the machine's steps.
-use Rattle.std.specs.Prelude.{ℕ, ◌≡◌, None, List, [], ◌∷◌, map}
+-- Laws of the machine's steps and of reference runs.
+use Rattle.std.specs.Prelude.{ℕ, ◌≡◌, Option, None, List, [], ◌∷◌, map}
 use Rattle.hel_lists.specs.Members.{Each}
 use Rattle.machine_laws.specs.declared.logs.FedLog.{FedLog}
-use Rattle.machine_laws.specs.Plan.{IsPlan}
 use Rattle.machine_laws.specs.Machine.{Step, KeepsTime, IsRun, opening, logs_of}
 use Rattle.machine_laws.specs.Machine.Step.{begin}
-use Rattle.machine_laws.specs.Moves.{opening_play, steps_of_moves}
+use Rattle.machine_laws.specs.Moves.{Play, Moves, IsStill, opening_play, steps_of_moves}
 use Rattle.fed_script.specs.Script.{Course, IsCourse}
+use Rattle.federation_plan.specs.Plan.{Federation, IsFederation}
+use Rattle.federation_plan.specs.Wires.{wires_of}
 use Rattle.one_place.specs.declared.step.MachineStep.{MachineStep}
-use Rattle.one_place.specs.Plan.{Federation, IsFederation, wires_of}
 use Rattle.one_place.specs.Step.{step_of}
 use Rattle.one_place.specs.Reference.{plays_of, HasReferenceLogs}
+use Rattle.one_place.specs.Orders.{HasLogsUpToFailure}
 use Rattle.one_place.specs.Machine.{Stage, refusal_at, stage_after}
-
--- Each plan is one as the laws of runs need it.
-abbrev pub PlansAre : Type 0
-PlansAre = (plan : Federation) → IsFederation plan → IsPlan (wires_of plan)
 
 -- the machine after steps that were accepted one after another
 abbrev pub Accepts : Stage → List MachineStep → Stage → Type 0
@@ -35,3 +32,15 @@ reference_steps plan scripts feds = begin ∷ steps_of_moves (wires_of plan) (pl
 abbrev pub ReferenceRuns : Type 0
 ReferenceRuns = (plan : Federation) (scripts : List Course) (logs : List FedLog) → IsFederation plan → Each IsCourse scripts → (has : HasReferenceLogs plan scripts logs) →
     IsRun (wires_of plan) (opening (wires_of plan)) (reference_steps plan scripts has.feds) has.end.state × (logs ≡ logs_of has.end.state)
+
+-- The steps of a run up to a failure are a run too.
+abbrev pub FailureRuns : Type 0
+FailureRuns = (plan : Federation) (scripts : List Course) (failed : Option ℕ) (logs : List FedLog) → IsFederation plan → Each IsCourse scripts →
+    (has : HasLogsUpToFailure plan scripts failed logs) →
+    IsRun (wires_of plan) (opening (wires_of plan)) (reference_steps plan scripts has.feds) has.end.state × (logs ≡ logs_of has.end.state)
+
+-- One answer: however the federates take turns, once none may move their logs are the reference logs.
+abbrev pub OrdersAgree : Type 0
+OrdersAgree = (plan : Federation) (scripts : List Course) (end : Play) (feds : List ℕ) → IsFederation plan → Each IsCourse scripts →
+    Moves (wires_of plan) (plays_of plan scripts) (opening_play (wires_of plan)) feds end → IsStill (wires_of plan) (plays_of plan scripts) end →
+    HasReferenceLogs plan scripts (logs_of end.state)

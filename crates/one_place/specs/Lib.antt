@@ -1,5 +1,3 @@
-pub mod Plan
-pub mod Targets
 pub mod Scene
 pub mod Step
 pub mod Machine
@@ -7,4 +5,6 @@ pub mod Laws
 pub mod Members
 pub mod Reference
 pub mod Run
-pub mod Text
+pub mod Orders
+pub mod Playing
+pub mod Work

@@ -1,10 +1,12 @@
 -- The machine: a plan and a state.
 use Rattle.std.specs.Prelude.{◌≡◌, ◌≢◌, length, Option, Some, None, Result, OnOk, OnErr, IfErr}
-use Rattle.machine_laws.specs.Machine.{State, refusal_of, after}
+use Rattle.machine_laws.specs.Machine.{State, Step, refusal_of, after}
+use Rattle.machine_laws.specs.Machine.Step.{make, grant}
 use Rattle.machine_laws.specs.declared.refusal.Unlawful.{Unlawful}
 use Rattle.machine_laws.specs.declared.refusal.Unlawful.TheVariants.{OutOfMemory}
 use Rattle.one_place.specs.declared.step.MachineStep.{MachineStep}
-use Rattle.one_place.specs.Plan.{Federation, wires_of}
+use Rattle.federation_plan.specs.Plan.{Federation, IsFederation}
+use Rattle.federation_plan.specs.Wires.{wires_of}
 use Rattle.one_place.specs.Step.{step_of}
 
 pub record Stage : Type 0 where
@@ -13,6 +15,7 @@ pub record Stage : Type 0 where
 
 -- a machine has the federates of its plan
 pub record IsStage (s : Stage) : Type 0 where
+  pub plan : IsFederation s.plan
   pub each : length s.state.members ≡ length s.plan.federates
 
 -- the first condition of a step that fails
@@ -22,6 +25,12 @@ refusal_at s step = refusal_of (wires_of s.plan) s.state (step_of step)
 -- the machine after a lawful step
 abbrev pub stage_after : Stage → MachineStep → Stage
 stage_after s step = record s { state = after (wires_of s.plan) s.state (step_of step) }
+
+-- the steps that take memory: a publish, a send and a grant
+abbrev pub MayWant : Step → Type 0
+MayWant (make f call) = Unit {0}
+MayWant (grant f) = Unit {0}
+MayWant step = ⊥
 
 -- what a refused step tells: memory wants only for a lawful one
 abbrev pub TellsRefusal : Option Unlawful → Unlawful → Type 0

@@ -1,12 +1,13 @@
 -- What the code keeps of the machine's state: what changes often of each federate with its queue, and the logs apart.
-use Rattle.std.specs.Prelude.{ℕ, suc, ◌+◌, ◌^◌, ◌<◌, ◌≡◌, Bool, List, [], ◌∷◌, ◌++◌, length, map, slice_index_or, slice_set, if◌then◌else◌}
+use Rattle.std.specs.Prelude.{ℕ, suc, ◌+◌, ◌<◌, ◌≡◌, ◌==◌, Bool, List, [], ◌∷◌, ◌++◌, length, map, slice_index_or, slice_set, if◌then◌else◌}
 use Rattle.std.specs.List.{filter}
 use Rattle.hel_lists.specs.Members.{Each}
-use Rattle.helics_time.specs.Time.{horizon}
+use Rattle.helics_time.specs.Settings.{Terms}
 use Rattle.helics_time.specs.Stamp.{At, IsDue}
 use Rattle.due_queue.specs.Item.{Parcel}
 use Rattle.due_queue.specs.Order.{enqueue}
 use Rattle.due_queue.specs.Queue.{is_made_otherwise}
+use Rattle.interface_names.specs.declared.records.FederateRecord.{FederateRecord}
 use Rattle.machine_laws.specs.declared.logs.LogEnd.{LogEnd}
 use Rattle.machine_laws.specs.declared.logs.LogEnd.TheVariants.{Ended, FailedText, Open}
 use Rattle.machine_laws.specs.declared.logs.FedLog.{FedLog}
@@ -78,9 +79,17 @@ unfoldable pub gathered : List Clock → List Parcel
 gathered [] = []
 gathered (c ∷ cs) = c.queue ++ gathered cs
 
+-- the clock of a federate that is Created
+abbrev pub new_clock : Terms → Clock
+new_clock terms = record { time = created terms; seq = 0; queue = []; event = zero_stamp }
+
+-- one of each
+abbrev pub new_clocks : List FederateRecord → List Clock
+new_clocks feds = map (λ (f : FederateRecord). new_clock f.settings) feds
+
 -- the clock and the log of a federate; the blank ones stand where there is none of that number
 abbrev pub blank_clock : Clock
-blank_clock = record { time = created default_terms; seq = 0; queue = []; event = zero_stamp }
+blank_clock = new_clock default_terms
 
 abbrev pub blank_log : FedLog
 blank_log = record { entries = []; end = Open Created }
@@ -122,12 +131,6 @@ put_all (i ∷ items) cs = put_all items (put_in i cs)
 abbrev pub called_at : ℕ → List Clock → List Clock
 called_at f cs = slice_set cs f (record (clock_at cs f) { seq = (clock_at cs f).seq + 1 })
 
--- below the limits of what sends
-pub record MaySend (c : Clock) : Type 0 where
-  pub time : c.time.last.time < horizon
-  pub micro : c.time.last.micro < 2 ^ 62
-  pub count : c.seq < 2 ^ 32
-
 -- there is a federate for each item, and its call of this number made it
 abbrev pub AreMade : ℕ → ℕ → ℕ → List Parcel → Type 0
 AreMade count source seq items = Each (λ i. (i.target < count) × (i.source ≡ source) × (i.seq ≡ seq)) items
@@ -142,3 +145,12 @@ pub record IsClockOf (s : State) (f : ℕ) (c : Clock) : Type 0 where
 -- what a halt makes of a member
 abbrev pub halted_member : ℕ → Member → Member
 halted_member f m = if is_live m.time.phase then ended_member m (Halted f) else m
+
+-- and of one that may stand at another core
+abbrev pub halted_if : Bool → ℕ → Member → Member
+halted_if there f m = if there then halted_member f m else m
+
+-- the members from number i on, of which these are the cores, where those of one core are halted
+abbrev pub halted_at : List ℕ → ℕ → ℕ → ℕ → List Member → List Member
+halted_at cores core f i [] = []
+halted_at cores core f i (m ∷ ms) = halted_if (slice_index_or cores i 0 == core) f m ∷ halted_at cores core f (suc i) ms

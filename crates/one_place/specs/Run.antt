@@ -1,6 +1,11 @@
 -- The reference run as the code makes it: a machine, and for each federate what is left of its script and what it sees.
 use Rattle.std.specs.Prelude.{ℕ, zero, ◌+◌, ◌<◌, ◌≡◌, Bool, true, false, is_none, List, [], ◌∷◌, ◌++◌, length, drop, slice_index_or, if◌then◌else◌}
 use Rattle.hel_lists.specs.Members.{Each}
+use Rattle.hel_values.specs.declared.EndRef.{EndRef}
+use Rattle.interface_names.specs.declared.records.FederateRecord.{FederateRecord}
+use Rattle.federation_plan.specs.Interfaces.{blank_federate}
+use Rattle.federation_plan.specs.Plan.{Federation}
+use Rattle.federation_plan.specs.Wires.{wires_of}
 use Rattle.time_state.specs.Fed.{is_live, grant_of}
 use Rattle.time_state.specs.declared.Phase.{Phase}
 use Rattle.time_state.specs.declared.Phase.TheVariants.{Initializing, Entering, Running, Waiting}
@@ -11,13 +16,14 @@ use Rattle.machine_laws.specs.Machine.{Member, State, Step, member_at, dues_to, 
 use Rattle.machine_laws.specs.Machine.Step.{grant}
 use Rattle.machine_laws.specs.Moves.{Doing, Scripts, Play, call_by, IsReference, opening_play}
 use Rattle.one_place.specs.declared.actor.Actor.{Actor}
-use Rattle.one_place.specs.declared.plan.Federate.{Federate}
-use Rattle.one_place.specs.Plan.{Federation, wires_of}
 use Rattle.one_place.specs.Machine.{Stage}
-use Rattle.one_place.specs.Reference.{acts, call_of, read_on, taken_over, first_sight}
+use Rattle.one_place.specs.Reference.{names_in, acts, call_of, read_on, taken_over, first_sight}
 
 abbrev pub wires_at : Stage → Plan
 wires_at s = wires_of s.plan
+
+abbrev pub names_at : Stage → EndRef → List ℕ
+names_at s = names_in s.plan
 
 abbrev pub play_of : Stage → List ℕ → Play
 play_of s calls = record { state = s.state; calls = calls }
@@ -48,11 +54,11 @@ pub record IsNextToMove (s : Stage) (f : ℕ) : Type 0 where
   pub least : (g : ℕ) → g < f → may_move s g ≡ false
 
 -- what a federate in this phase does after so many more calls, over what it will be granted
-abbrev pub going : Phase → Actor → List LogEntry → ℕ → Doing
-going Running a more k = acts a.script.words a.view more k
-going Entering a more k = let reading = read_on a.view more in acts a.script.words reading.view reading.rest k
-going Waiting a more k = let reading = read_on a.view more in acts a.script.words reading.view reading.rest k
-going phase a more k = call_of a.script.initial a.script.words a.view more k
+abbrev pub going : (EndRef → List ℕ) → Phase → Actor → List LogEntry → ℕ → Doing
+going names Running a more k = acts names a.script.words a.view more k
+going names Entering a more k = let reading = read_on names a.view more in acts names a.script.words reading.view reading.rest k
+going names Waiting a more k = let reading = read_on names a.view more in acts names a.script.words reading.view reading.rest k
+going names phase a more k = call_of names a.script.initial a.script.words a.view more k
 
 -- what is left once the next call has passed
 abbrev pub passed : Phase → Actor → Actor
@@ -61,7 +67,7 @@ passed phase a = record a { script = record a.script { initial = drop 1 a.script
 
 -- the step by which a federate makes its next call
 abbrev pub calling_step : Stage → ℕ → Actor → Step
-calling_step s f a = call_by (wires_at s) f (member_at s.state f) (going (member_at s.state f).time.phase a [] zero)
+calling_step s f a = call_by (wires_at s) f (member_at s.state f) (going (names_at s) (member_at s.state f).time.phase a [] zero)
 
 -- what a grant writes into a federate's log
 abbrev pub entry_in : State → ℕ → LogEntry
@@ -74,38 +80,44 @@ step_at s f a = if is_calling (member_at s.state f).time.phase then calling_step
 abbrev pub actor_after : Stage → ℕ → Actor → Actor
 actor_after s f a =
     if is_calling (member_at s.state f).time.phase then passed (member_at s.state f).time.phase a
-    else record a { view = taken_over a.view (entry_in s.state f) }
+    else record a { view = taken_over (names_at s) a.view (entry_in s.state f) }
 
 -- what every actor keeps
 pub record IsActor (a : Actor) : Type 0 where
   pub rules : IsCourse a.script
-  -- there is no endpoint
-  pub letters : a.view.inboxes ≡ []
 
 pub record AreActors (s : State) (actors : List Actor) : Type 0 where
   pub each : length actors ≡ length s.members
   pub all : Each IsActor actors
 
 -- where a federate has made so many calls, what is left of its script is what it does from here on
-abbrev pub Goes : Scripts → ℕ → Member → ℕ → Actor → Type 0
-Goes plays f m calls a = is_live m.time.phase ≡ true → (more : List LogEntry) (k : ℕ) → plays f (calls + k) (m.log ++ more) ≡ going m.time.phase a more k
+abbrev pub Goes : (EndRef → List ℕ) → Scripts → ℕ → Member → ℕ → Actor → Type 0
+Goes names plays f m calls a = is_live m.time.phase ≡ true → (more : List LogEntry) (k : ℕ) → plays f (calls + k) (m.log ++ more) ≡ going names m.time.phase a more k
 
 abbrev pub actor_at : List Actor → ℕ → Actor
-actor_at actors f = slice_index_or actors f (record { script = record { initial = []; words = [] }; view = first_sight [] })
+actor_at actors f = slice_index_or actors f (record { script = record { initial = []; words = [] }; view = first_sight blank_federate })
 
-pub record AreFollowing (plays : Scripts) (s : State) (calls : List ℕ) (actors : List Actor) : Type 0 where
-  pub counts : length calls ≡ length s.members
-  pub go : (f : ℕ) → f < length s.members → Goes plays f (member_at s f) (slice_index_or calls f 0) (actor_at actors f)
+pub record AreFollowing (plays : Scripts) (s : Stage) (calls : List ℕ) (actors : List Actor) : Type 0 where
+  pub counts : length calls ≡ length s.state.members
+  pub go : (f : ℕ) → f < length s.state.members → Goes (names_at s) plays f (member_at s.state f) (slice_index_or calls f 0) (actor_at actors f)
 
 -- at the beginning each federate has its whole script before it
-abbrev pub first_actors : List Federate → List Course → List Actor
+abbrev pub first_actors : List FederateRecord → List Course → List Actor
 first_actors [] scripts = []
 first_actors (fed ∷ feds) [] = []
-first_actors (fed ∷ feds) (script ∷ scripts) = (record { script = script; view = first_sight fed.inputs }) ∷ first_actors feds scripts
+first_actors (fed ∷ feds) (script ∷ scripts) = (record { script = script; view = first_sight fed }) ∷ first_actors feds scripts
 
 -- from here the reference run ends so
 abbrev pub PlaysOut : Plan → Scripts → Play → Play → Type 0
 PlaysOut p plays w end = (feds : List ℕ) × IsReference p plays w feds end
+
+-- from the one stage the reference run goes on to the other: what ends well from there ends well from here
+pub record GoesOn (s : Stage) (actors : List Actor) (t : Stage) (rest : List Actor) : Type 0 where
+  pub plan : t.plan ≡ s.plan
+  pub ready : AreActors t.state rest
+  pub more : (plays : Scripts) (calls : List ℕ) → AreFollowing plays s calls actors →
+      (now : List ℕ) × AreFollowing plays t now rest
+      × ((end : Play) → PlaysOut (wires_at t) plays (play_of t now) end → PlaysOut (wires_at s) plays (play_of s calls) end)
 
 -- the machine of a plan once it has begun
 abbrev pub begun_stage : Federation → Stage

@@ -2,7 +2,7 @@
 use Rattle.std.specs.Prelude.{◌≡◌, List, length}
 use Rattle.hel_lists.specs.Members.{Each}
 use Rattle.fed_script.specs.Script.{Course, IsCourse}
-use Rattle.one_place.specs.Plan.{Federation}
+use Rattle.federation_plan.specs.Plan.{Federation}
 
 pub record Scene : Type 0 where
   pub plan : Federation

@@ -1,18 +1,21 @@
 // A scripted federate: what is left of its script, and what it sees.
-ghost use Rattle.std.specs.Prelude.{◌≡◌, ◌≤◌, [], zero, length, true, IfOk, OnOk, OnErr};
+ghost use Rattle.interface_names.specs.Federate.{interface_count};
+ghost use Rattle.interface_names.specs.Limits.{most_interfaces};
+ghost use Rattle.std.specs.Prelude.{◌≡◌, ◌≤◌, ℕ, List, [], zero, length, true, IfOk, OnOk};
 ghost use Rattle.hel_values.specs.declared.EndRef.{EndRef};
 ghost use Rattle.fed_script.specs.Script.{IsCourse, HasTime};
 ghost use Rattle.machine_laws.specs.Machine.{KeepsTime};
 ghost use Rattle.machine_laws.specs.Moves.{step_by};
-ghost use Rattle.one_place.specs.Plan.{AreFederates, interface_limit};
+ghost use Rattle.federation_plan.specs.Interfaces.{AreFew};
 ghost use Rattle.one_place.specs.Reference.{doing_of, first_sight, taken_over};
 ghost use Rattle.one_place.specs.Run.{is_calling, going, passed, first_actors};
+ghost use Rattle.one_place.specs.Work.{is_answering};
 ghost use Rattle.one_place.specs.Step.{step_of};
 
-use crate::{Federate, MachineStep};
+use crate::MachineStep;
 use fed_script::{Action, EndpointNames, Script, View};
-use hel_lists::{Items, OutOfMemory, Text};
-use hel_values::EndRef;
+use hel_lists::{Items, OutOfMemory};
+use interface_names::FederateRecord;
 use machine_laws::LogEntry;
 use std::alloc::Global;
 use time_state::Phase;
@@ -23,36 +26,32 @@ pub struct Actor {
     pub view: View,
 }
 
-// A plan has no endpoint, so no letter comes whose source would have a name.
-struct NoEndpoints;
-
-impl EndpointNames for NoEndpoints {
-    ghost use Rattle.one_place.specs.Reference.{no_names};
-
-    ghost name_of = { λ _ e. no_names e };
-
-    fn name(&self, alloc: Global, _endpoint: EndRef) -> Result<Text, OutOfMemory> {
-        Ok(Text::new(alloc))
-    }
-}
-
 /// One actor for each federate, with its whole script before it.
 pub fn actors_of(
     alloc: Global,
-    federates: &[Federate],
+    federates: &[FederateRecord],
     scripts: Items<Script>,
 ) -> Result<Vec<Actor>, OutOfMemory>
-    requires federates { AreFederates federates.now }
+    requires federates { AreFew federates.now }
     requires each { length scripts ≡ length federates.now }
     ensures { IfOk result (λ actors. actors.items ≡ first_actors federates.now scripts) }
 {
     let mut actors = Vec::with_capacity(alloc, federates.len())?;
     for script in scripts.into_vec() {
-        let inputs = federates[actors.len()].inputs.len();
-        let view = View::new(alloc, inputs as u16, 0)?;
+        let federate = &federates[actors.len()];
+        let view = first_view(alloc, federate)?;
         actors.push(Actor { script, view })?;
     }
     Ok(actors)
+}
+
+// What a federate sees before its first grant.
+fn first_view(alloc: Global, federate: &FederateRecord) -> Result<View, OutOfMemory>
+    requires { interface_count federate.now ≤ most_interfaces }
+    ensures { IfOk result (λ view. view ≡ first_sight federate.now) }
+{
+    let inputs = federate.inputs.len() as u16;
+    View::new(alloc, inputs, federate.endpoints.len() as u16)
 }
 
 // The step by which a federate takes an action.
@@ -89,7 +88,7 @@ impl Actor {
     pub fn next(&self, alloc: Global, f: u16, phase: Phase) -> Result<MachineStep, OutOfMemory>
         requires calls { is_calling phase ≡ true }
         requires rules { IsCourse self.now.script }
-        ensures step { IfOk result (λ step. step_of step ≡ step_by f (going phase self.now [] zero)) }
+        ensures step { IfOk result (λ step. (names : EndRef → List ℕ) → step_of step ≡ step_by f (going names phase self.now [] zero)) }
         ensures time { IfOk result (λ step. KeepsTime (step_of step)) }
     {
         match phase {
@@ -99,6 +98,13 @@ impl Actor {
                 None => Ok(MachineStep::Enter(f)),
             },
         }
+    }
+
+    /// Whether that call answers a letter.
+    pub fn is_answering(&self, phase: Phase) -> bool
+        ensures { result ≡ is_answering phase self.now }
+    {
+        phase == Phase::Running && self.script.answers(&self.view)
     }
 
     /// Passes that call.
@@ -114,11 +120,15 @@ impl Actor {
     }
 
     /// Takes over what a grant shows.
-    pub fn take_over(&mut self, alloc: Global, entry: &LogEntry) -> Result<(), OutOfMemory>
-        ensures ok { OnOk result (self.new ≡ record self.old { view = taken_over self.old.view entry.now }) }
+    pub fn take_over<N: EndpointNames>(
+        &mut self,
+        alloc: Global,
+        names: &N,
+        entry: &LogEntry,
+    ) -> Result<(), OutOfMemory>
+        ensures ok { OnOk result (self.new ≡ record self.old { view = taken_over (N.name_of names.now) self.old.view entry.now }) }
     {
         let items = entry.items.as_slice();
-        self.view
-            .take_over(alloc, &NoEndpoints, entry.grant.time, items)
+        self.view.take_over(alloc, names, entry.grant.time, items)
     }
 }

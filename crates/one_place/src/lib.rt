@@ -5,22 +5,20 @@ mod actor;
 mod laws;
 mod machine;
 mod members;
-mod plan;
+mod orders;
 mod queues;
 mod refusal;
 mod run;
 mod scenario;
 mod seat;
+mod sending;
 mod step;
-mod targets;
 
-pub use laws::{plan_laws, reference_runs, steps_run};
+pub use federation_plan::Plan;
+pub use laws::{failure_runs, orders_agree, reference_runs, steps_run};
 pub use machine::Machine;
 pub use machine_laws::{CallRefusal, FedLog, LogEnd, LogEntry, Logs, Unlawful};
-pub use plan::{Federate, Plan, Publication};
+pub use orders::{Outcome, logs_in_order, up_to_failure};
 pub use run::reference;
 pub use scenario::Scenario;
 pub use step::MachineStep;
-
-#[cfg(test)]
-mod tests;

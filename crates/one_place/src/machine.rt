@@ -1,21 +1,24 @@
-ghost use Rattle.std.specs.Prelude.{◌≡◌, ◌≤◌, ◌<◌, Some, None, length, option_map, OnOk, OnErr, IfOk};
+ghost use Rattle.std.specs.Prelude.{◌≡◌, ◌≤◌, ◌<◌, Some, None, true, false, is_none, length, option_map, OnOk, OnErr, IfOk};
 ghost use Rattle.helics_time.specs.Time.{max_time};
 ghost use Rattle.helics_time.specs.Stamp.{before, next_of};
 ghost use Rattle.time_state.specs.Fed.{request_refusal};
-ghost use Rattle.machine_laws.specs.declared.refusal.CallRefusal.TheVariants.{NotOwner};
 ghost use Rattle.machine_laws.specs.Refusal.{refusal_by_time};
-ghost use Rattle.machine_laws.specs.Machine.{KeepsTime, member_at, event_in, cut_in, opening, logs_of, holder_in, limit_refusal, by_phase, end_refusal, if_refused};
-ghost use Rattle.std.specs.Option.{option_or};
+ghost use Rattle.machine_laws.specs.Machine.{KeepsTime, member_at, event_in, cut_in, opening, logs_of, holder_in, end_refusal, if_refused};
 ghost use Rattle.dependency_paths.specs.Paths.{row_of};
-ghost use Rattle.one_place.specs.Plan.{wires_of};
+ghost use Rattle.federation_plan.specs.Plan.{IsFederation};
+ghost use Rattle.federation_plan.specs.Tree.{kind_at};
+ghost use Rattle.federation_plan.specs.Wires.{is_core_kind, wires_of};
 ghost use Rattle.one_place.specs.Step.{step_of};
-ghost use Rattle.one_place.specs.Machine.{refusal_at, stage_after, Steps};
+ghost use Rattle.one_place.specs.Machine.{refusal_at, stage_after, MayWant, Steps};
 
 use crate::members::Members;
-use crate::{CallRefusal, LogEntry, Logs, MachineStep, Plan, Unlawful, refusal};
-use hel_lists::OutOfMemory;
-use hel_values::{EndRef, TextValue, Value};
+use crate::{LogEntry, Logs, MachineStep, Plan, Unlawful, refusal};
+use fed_script::EndpointNames;
+use federation_plan::{NodeKind, Tree};
+use hel_lists::{OutOfMemory, Text};
+use hel_values::{EndRef, Payload, TextValue, Value};
 use helics_time::Stamp;
+use interface_names::global_name;
 use iteration_rules::Mode;
 use std::alloc::Global;
 use std::marker::Model;
@@ -47,13 +50,29 @@ fn sends_past(cut: &Stamp, event: Stamp) -> bool
     *cut < event.next()
 }
 
+// The place of a federate among others.
+fn place_of(federates: &[u16], f: u16) -> usize {
+    federates.binary_search(&f).unwrap_or(0)
+}
+
+// Whether this is the number of a core.
+#[tactic(auto, using(crate::proofs::Halting::no_core))]
+fn is_core(tree: &Tree, number: u16) -> bool
+    ensures { result ≡ is_core_kind (kind_at tree.now.nodes number) }
+{
+    let at = usize::from(number);
+    if at >= tree.nodes.len() {
+        return false;
+    }
+    tree.nodes.at(at).kind == NodeKind::Core
+}
+
 impl Machine {
     /// The machine before the beginning: every federate is Created.
-    #[tactic(auto, using(crate::proofs::Opening::new_members))]
     pub fn open(alloc: Global, plan: Plan) -> Result<Machine, OutOfMemory>
         ensures { IfOk result (λ machine. machine ≡ record { plan = plan; state = opening (wires_of plan) }) }
     {
-        let members = Members::new(alloc, plan.count())?;
+        let members = Members::new(alloc, plan.federates())?;
         Ok(Machine {
             alloc,
             plan,
@@ -78,6 +97,19 @@ impl Machine {
             members,
         } = self;
         members.into_logs()
+    }
+
+    /// Gives up the machine for its plan and its logs.
+    pub(crate) fn into_parts(self) -> (Plan, Logs)
+        ensures plan { result.0 ≡ self.plan }
+        ensures logs { result.1.feds ≡ logs_of self.state }
+    {
+        let Machine {
+            alloc: _,
+            plan,
+            members,
+        } = self;
+        (plan, members.into_logs())
     }
 
     /// The number of federates.
@@ -109,7 +141,8 @@ impl Machine {
     /// `Unlawful`. A refused step changes nothing, and memory is wanted for a lawful step alone.
     pub fn step(&mut self, step: MachineStep) -> Result<(), Unlawful>
         requires { KeepsTime (step_of step) }
-        ensures { Steps self.old step result self.new }
+        ensures steps { Steps self.old step result self.new }
+        ensures memory { result ≡ Err Unlawful.OutOfMemory → MayWant (step_of step) }
     {
         if let Some(refusal) = self.refusal(&step) {
             return Err(refusal);
@@ -130,7 +163,12 @@ impl Machine {
                 publication,
                 value,
             } => self.publish_refusal(*fed, *publication, value),
-            MachineStep::Send { fed, .. } => self.send_refusal(*fed),
+            MachineStep::Send {
+                fed,
+                endpoint,
+                dest,
+                payload,
+            } => self.send_refusal(*fed, *endpoint, dest, payload),
             MachineStep::Request { fed, .. } => self.request_refusal(*fed),
             MachineStep::Grant(f) => self.grant_refusal(*f),
             MachineStep::Finish(f) => self.finish_refusal(*f),
@@ -146,6 +184,7 @@ impl Machine {
         requires times { KeepsTime (step_of step) }
         ensures ok { OnOk result (self.new ≡ stage_after self.old step) }
         ensures err { OnErr result (self.new ≡ self.old) }
+        ensures memory { OnErr result (MayWant (step_of step)) }
     {
         match step {
             MachineStep::Begin => self.begin(),
@@ -155,7 +194,12 @@ impl Machine {
                 publication,
                 value,
             } => self.publish(fed, publication, &value)?,
-            MachineStep::Send { .. } => unreachable!(),
+            MachineStep::Send {
+                fed,
+                endpoint,
+                dest,
+                payload,
+            } => self.send(fed, endpoint, dest, payload)?,
             MachineStep::Request { fed, time, mode } => self.request(fed, time, mode),
             MachineStep::Grant(f) => self.grant(f)?,
             MachineStep::Finish(f) => self.finish(f),
@@ -207,7 +251,7 @@ impl Machine {
         match self.members.time(f) {
             Some(time) => {
                 let index = publication;
-                let objection = self.plan.objection(EndRef { fed: f, index }, value);
+                let objection = self.plan.publish_objection(EndRef { fed: f, index }, value);
                 refusal::make_refusal(time, objection, self.members.seq(f)).map(Unlawful::Refused)
             }
             None => Some(Unlawful::StrangeNumber),
@@ -224,22 +268,51 @@ impl Machine {
             fed: f,
             index: publication,
         };
-        let targets = self.plan.targets(publication);
-        self.members
-            .publish(self.alloc, publication, value, targets)
+        let caller = self.members.caller(usize::from(f));
+        let items = caller.published(self.alloc, &self.plan, publication, value)?;
+        self.members.call(f, items)
     }
 
-    // No federate has an endpoint yet.
-    fn send_refusal(&self, f: u16) -> Option<Unlawful>
-        ensures { result ≡ if_refused self.now.state f (by_phase (member_at self.now.state f).time.phase (option_or (Some NotOwner) (limit_refusal (member_at self.now.state f)))) }
+    fn send_refusal(
+        &self,
+        f: u16,
+        endpoint: u16,
+        dest: &Text,
+        payload: &Payload,
+    ) -> Option<Unlawful>
+        ensures { result ≡ refusal_at self.now (MachineStep.Send f endpoint dest.now payload.now) }
     {
         match self.members.time(f) {
             Some(time) => {
-                let objection = Some(CallRefusal::NotOwner);
+                let index = endpoint;
+                let objection = self
+                    .plan
+                    .send_objection(EndRef { fed: f, index }, dest.as_str());
                 refusal::make_refusal(time, objection, self.members.seq(f)).map(Unlawful::Refused)
             }
             None => Some(Unlawful::StrangeNumber),
         }
+    }
+
+    // Without memory for its item a send changes nothing.
+    fn send(
+        &mut self,
+        f: u16,
+        endpoint: u16,
+        dest: Text,
+        payload: Payload,
+    ) -> Result<(), OutOfMemory>
+        requires { refusal_at self.old (MachineStep.Send f endpoint dest payload) ≡ None }
+        ensures ok { OnOk result (self.new ≡ stage_after self.old (MachineStep.Send f endpoint dest payload)) }
+        ensures err { OnErr result (self.new ≡ self.old) }
+    {
+        let from = EndRef {
+            fed: f,
+            index: endpoint,
+        };
+        let caller = self.members.caller(usize::from(f));
+        let items = caller.sent(self.alloc, &self.plan, from, &dest, payload)?;
+        self.members.call(f, items)
     }
 
     fn request_refusal(&self, f: u16) -> Option<Unlawful>
@@ -287,6 +360,39 @@ impl Machine {
             }
         }
         None
+    }
+
+    // Whether the ancestor at a place could still send what is due by a federate's cut.
+    fn is_held_at(&self, f: u16, place: usize) -> bool
+        requires { f < length self.now.state.members }
+        ensures { result ≡ true → is_none (holder_in (wires_of self.now.plan) self.now.state (cut_in self.now.state f) (row_of self.now.plan.ancestors f)) ≡ false }
+    {
+        let ancestors = self.plan.ancestors(f);
+        if place >= ancestors.len() {
+            return false;
+        }
+        !sends_past(&self.members.cut(f), self.members.event(ancestors[place]))
+    }
+
+    /// Whether a federate may be granted. The ancestor at the place `hint` is looked at first, and where
+    /// another holds the grant that one's place is the new hint: most often it holds the next one too.
+    pub(crate) fn may_grant(&self, f: u16, hint: &mut usize) -> bool
+        ensures { result ≡ is_none (refusal_at self.now (MachineStep.Grant f)) }
+    {
+        let Some(time) = self.members.time(f) else {
+            return false;
+        };
+        if !matches!(time.phase(), Phase::Entering | Phase::Waiting) || self.is_held_at(f, *hint) {
+            return false;
+        }
+        match self.holder(f) {
+            None => true,
+            Some(Unlawful::Early { holder, .. }) => {
+                *hint = place_of(self.plan.ancestors(f), holder);
+                false
+            }
+            Some(_) => false,
+        }
     }
 
     fn grant(&mut self, f: u16) -> Result<(), OutOfMemory>
@@ -340,7 +446,7 @@ impl Machine {
     fn halt_refusal(&self, core: u16, f: u16) -> Option<Unlawful>
         ensures { result ≡ refusal_at self.now (MachineStep.Halt core f) }
     {
-        if core != Plan::CORE {
+        if !is_core(self.plan.tree(), core) {
             return Some(Unlawful::StrangeNumber);
         }
         match self.members.time(f) {
@@ -349,12 +455,30 @@ impl Machine {
         }
     }
 
-    // All federates stand on the one core.
-    #[tactic(auto, using(crate::proofs::Halting::all_halted))]
+    // The federates that stand at the core are halted.
+    #[tactic(auto, using(crate::proofs::Halting::halted_is, crate::proofs::Halting::halted_length))]
     fn halt(&mut self, core: u16, f: u16)
         requires { refusal_at self.old (MachineStep.Halt core f) ≡ None }
         ensures { self.new ≡ stage_after self.old (MachineStep.Halt core f) }
     {
-        self.members.halt(f);
+        let cores = self.plan.tree().cores.as_slice();
+        self.members.halt(cores, core, f);
+    }
+}
+
+impl EndpointNames for Machine {
+    ghost use Rattle.one_place.specs.Reference.{names_in};
+
+    ghost name_of = { λ machine e. names_in machine.plan e };
+
+    fn name(&self, alloc: Global, endpoint: EndRef) -> Result<Text, OutOfMemory> {
+        let federates = self.plan.federates();
+        let Some(federate) = federates.get(usize::from(endpoint.fed)) else {
+            return Ok(Text::new(alloc));
+        };
+        match federate.endpoints.get(usize::from(endpoint.index)) {
+            Some(end) => global_name(alloc, federate.name.as_str(), end.name.as_str(), end.global),
+            None => Ok(Text::new(alloc)),
+        }
     }
 }

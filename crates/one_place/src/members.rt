@@ -5,18 +5,20 @@ ghost use Rattle.hel_lists.specs.Lends.{lends_item};
 ghost use Rattle.hel_lists.specs.Members.{Each};
 ghost use Rattle.helics_time.specs.Time.{max_time};
 ghost use Rattle.due_queue.specs.Order.{insert_all};
-ghost use Rattle.time_state.specs.Fed.{enter_refusal, request_refusal, is_asking, is_live};
+ghost use Rattle.time_state.specs.Fed.{IsFed, enter_refusal, request_refusal, is_asking, is_live};
 ghost use Rattle.machine_laws.specs.contracts.logs.FedLog.{the_row as log_row};
-ghost use Rattle.machine_laws.specs.Plan.{item_of};
-ghost use Rattle.machine_laws.specs.Machine.{default_terms, blank_member, member_at, event_in, cut_in, dues_to, handed_in, left_in, with_member, begun_member, entered_member, called_member, requested_member, granted_member, ended_member, failed_member, limit_refusal, log_of};
-ghost use Rattle.one_place.specs.Plan.{leg_to};
-ghost use Rattle.one_place.specs.Members.{IsClockOf, blank_clock, blank_log, log_at, halted_member};
+ghost use Rattle.machine_laws.specs.Machine.{new_member, member_at, event_in, cut_in, dues_to, handed_in, left_in, with_member, begun_member, entered_member, called_member, requested_member, granted_member, ended_member, failed_member, limit_refusal, log_of};
+ghost use Rattle.interface_names.specs.declared.records.FederateRecord.{FederateRecord};
+ghost use Rattle.federation_plan.specs.Plan.{IsKept};
+ghost use Rattle.one_place.specs.Members.{AreMade, IsClockOf, new_clocks, blank_log, log_at, halted_if, halted_at};
 
 use crate::queues;
 use crate::seat::{self, Clock};
+use due_queue::Item;
 use hel_lists::{Items, OutOfMemory};
-use hel_values::{EndRef, TextValue, Value};
-use helics_time::{Settings, Stamp};
+use hel_values::TextValue;
+use helics_time::Stamp;
+use interface_names::FederateRecord;
 use iteration_rules::Mode;
 use machine_laws::{FedLog, LogEnd, LogEntry, Logs};
 use std::alloc::Global;
@@ -44,28 +46,12 @@ impl Model for Members {
     ghost invariant = { λ m. AreKept m.clocks.items m.logs.feds };
 }
 
-// The settings of a federate whose file names none.
-fn default_settings() -> Settings
-    ensures { result ≡ default_terms }
+fn new_clocks(alloc: Global, federates: &[FederateRecord]) -> Result<Vec<Clock>, OutOfMemory>
+    ensures { IfOk result (λ clocks. clocks.items ≡ new_clocks federates.now) }
 {
-    Settings {
-        period: 0,
-        offset: 0,
-        time_delta: 0,
-        input_delay: 0,
-        output_delay: 0,
-        uninterruptible: false,
-        wait: false,
-        max_iterations: 50,
-    }
-}
-
-fn new_clocks(alloc: Global, count: usize) -> Result<Vec<Clock>, OutOfMemory>
-    ensures { IfOk result (λ clocks. clocks.items ≡ replicate count blank_clock) }
-{
-    let mut clocks = Vec::new(alloc);
-    for _ in 0..count {
-        clocks.push(Clock::new(alloc, default_settings()))?;
+    let mut clocks = Vec::with_capacity(alloc, federates.len())?;
+    for federate in federates {
+        clocks.push(Clock::new(alloc, federate.settings))?;
     }
     Ok(clocks)
 }
@@ -94,12 +80,13 @@ fn log_mut(logs: &mut Items<FedLog>, at: usize) -> &mut FedLog
 
 #[tactic(auto, using(crate::proofs::Seats::seats))]
 impl Members {
-    /// Federates that are Created, with the default settings.
-    pub fn new(alloc: Global, count: usize) -> Result<Members, OutOfMemory>
-        ensures { IfOk result (λ members. members ≡ record { begun = false; members = replicate count blank_member; items = [] }) }
+    /// Federates that are Created, with their settings.
+    pub fn new(alloc: Global, federates: &[FederateRecord]) -> Result<Members, OutOfMemory>
+        requires { Each IsKept federates.now }
+        ensures { IfOk result (λ members. members ≡ record { begun = false; members = map new_member (map (λ (f : FederateRecord). f.settings) federates.now); items = [] }) }
     {
-        let clocks = new_clocks(alloc, count)?;
-        let feds = new_logs(alloc, count)?;
+        let clocks = new_clocks(alloc, federates)?;
+        let feds = new_logs(alloc, federates.len())?;
         Ok(Members {
             begun: false,
             clocks,
@@ -126,6 +113,15 @@ impl Members {
         ensures strange { IfNone result (length self.now.members ≤ f) }
     {
         self.clocks.get(usize::from(f))
+    }
+
+    /// The clock of a federate that calls.
+    pub fn caller(&self, at: usize) -> &Clock
+        requires { at < length self.now.members }
+        ensures clock { IsClockOf self.now at result.now }
+        ensures fed { IsFed result.now.time }
+    {
+        &self.clocks[at]
     }
 
     /// The time of a federate, and none where there is none of that number.
@@ -226,24 +222,15 @@ impl Members {
         seat::enter(clock, log);
     }
 
-    /// A federate publishes: each target is sent an item. Without memory nothing changes.
-    pub fn publish(
-        &mut self,
-        alloc: Global,
-        publication: EndRef,
-        value: &Value,
-        targets: &[EndRef],
-    ) -> Result<(), OutOfMemory>
-        requires within { publication.fed < length self.old.members }
-        requires limits { limit_refusal (member_at self.old publication.fed) ≡ None }
-        requires known { Each (λ e. e.fed < length self.old.members) targets.now }
-        ensures ok { OnOk result (
-            let m = member_at self.old publication.fed in
-            let items = map (item_of m.time publication.fed m.seq) (map (leg_to publication value.now) targets.now) in
-            self.new ≡ with_member self.old publication.fed (called_member m) (insert_all items self.old.items)) }
+    /// A federate calls, and these items are under way. Without memory nothing changes.
+    pub fn call(&mut self, source: u16, items: Vec<Item>) -> Result<(), OutOfMemory>
+        requires within { source < length self.old.members }
+        requires limits { limit_refusal (member_at self.old source) ≡ None }
+        requires made { AreMade (length self.old.members) source (member_at self.old source).seq items.items }
+        ensures ok { OnOk result (self.new ≡ with_member self.old source (called_member (member_at self.old source)) (insert_all items.items self.old.items)) }
         ensures err { OnErr result (self.new ≡ self.old) }
     {
-        queues::publish(&mut self.clocks, alloc, publication, value, targets)
+        queues::call(&mut self.clocks, source, items)
     }
 
     pub fn request(&mut self, at: usize, time: u64, mode: Mode)
@@ -291,21 +278,23 @@ impl Members {
         seat::fail(clock, log, text);
     }
 
-    fn halt_at(&mut self, at: usize, fed: u16)
+    // A federate that stands there is halted.
+    fn halt_at(&mut self, at: usize, there: bool, fed: u16)
         requires { at < length self.old.members }
-        ensures { self.new ≡ with_member self.old at (halted_member fed (member_at self.old at)) self.old.items }
+        ensures { self.new ≡ with_member self.old at (halted_if there fed (member_at self.old at)) self.old.items }
     {
         let clock = &mut self.clocks[at];
         let log = log_mut(&mut self.logs.feds, at);
-        seat::halt(clock, log, fed);
+        seat::halt(clock, log, there, fed);
     }
 
-    /// Each federate that lives is halted by `fed`.
-    pub fn halt(&mut self, fed: u16)
-        ensures { self.new ≡ record self.old { members = map (halted_member fed) self.old.members } }
+    /// Each federate that stands at a core and lives is halted by `fed`. The list has the core of each.
+    pub fn halt(&mut self, cores: &[u16], core: u16, fed: u16)
+        requires { length cores.now ≡ length self.old.members }
+        ensures { self.new ≡ record self.old { members = halted_at cores.now core fed 0 self.old.members } }
     {
-        for at in 0..self.len() {
-            self.halt_at(at, fed);
+        for at in 0..cores.len() {
+            self.halt_at(at, cores[at] == core, fed);
         }
     }
 }

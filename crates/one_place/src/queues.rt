@@ -1,42 +1,25 @@
 // Items on their way into the queues of several federates.
 ghost use Rattle.std.specs.Prelude.{◌≡◌, ◌<◌, ◌^◌, OnOk, OnErr, length, map};
-ghost use Rattle.hel_lists.specs.Members.{Each};
-ghost use Rattle.helics_time.specs.Time.{horizon};
-ghost use Rattle.machine_laws.specs.Plan.{item_of};
-ghost use Rattle.one_place.specs.Plan.{leg_to};
-ghost use Rattle.one_place.specs.Members.{AreClocks, AreMade, MaySend, clock_at, called_at, put_in, put_all, taken_back};
+ghost use Rattle.one_place.specs.Members.{AreClocks, AreMade, clock_at, called_at, put_in, put_all, taken_back};
 
 use crate::seat::Clock;
 use due_queue::Item;
 use hel_lists::OutOfMemory;
-use hel_values::{EndRef, Value};
-use std::alloc::Global;
 
-/// A federate publishes: an item goes into the queue of each target, and the federate's sequence number
-/// rises. Without memory nothing changes.
-pub fn publish(
-    clocks: &mut [Clock],
-    alloc: Global,
-    publication: EndRef,
-    value: &Value,
-    targets: &[EndRef],
-) -> Result<(), OutOfMemory>
-    requires within { publication.fed < length clocks.old }
+/// A federate calls: each item goes into the queue of its target, and the federate's sequence number
+/// rises, also where there is no item. Without memory nothing changes.
+pub fn call(clocks: &mut [Clock], source: u16, items: Vec<Item>) -> Result<(), OutOfMemory>
+    requires within { source < length clocks.old }
     requires clocks { AreClocks clocks.old }
-    requires limits { MaySend (clock_at clocks.old publication.fed) }
-    requires known { Each (λ e. e.fed < length clocks.old) targets.now }
-    requires new { map (taken_back publication.fed (clock_at clocks.old publication.fed).seq) clocks.old ≡ clocks.old }
-    ensures ok { OnOk result (
-        let c = clock_at clocks.old publication.fed in
-        let items = map (item_of c.time publication.fed c.seq) (map (leg_to publication value.now) targets.now) in
-        clocks.new ≡ called_at publication.fed (put_all items clocks.old)) }
+    requires count { (clock_at clocks.old source).seq < 2 ^ 32 }
+    requires made { AreMade (length clocks.old) source (clock_at clocks.old source).seq items.items }
+    requires new { map (taken_back source (clock_at clocks.old source).seq) clocks.old ≡ clocks.old }
+    ensures ok { OnOk result (clocks.new ≡ called_at source (put_all items.items clocks.old)) }
     ensures clocks { OnOk result (AreClocks clocks.new) }
     ensures err { OnErr result (clocks.new ≡ clocks.old) }
 {
-    let at = usize::from(publication.fed);
-    let items = clocks[at].published(alloc, publication, value, targets)?;
-    put_items(clocks, publication.fed, items)?;
-    let clock = &mut clocks[at];
+    put_items(clocks, source, items)?;
+    let clock = &mut clocks[usize::from(source)];
     clock.seq += 1;
     Ok(())
 }

@@ -1,16 +1,17 @@
 // The reference run.
-ghost use Rattle.std.specs.Prelude.{List, ◌≡◌, ◌≤◌, ◌<◌, ◌^◌, ℕ, [], zero, true, false, length, slice_set, None, IfOk, IfSome, IfNone, OnOk};
+ghost use Rattle.std.specs.Prelude.{List, ◌≡◌, ◌≤◌, ◌<◌, ◌^◌, ℕ, [], zero, true, false, length, replicate, slice_set, None, IfOk, IfSome, IfNone, OnOk};
 ghost use Rattle.hel_lists.specs.Members.{Each};
 ghost use Rattle.fed_script.specs.Script.{IsCourse};
 ghost use Rattle.machine_laws.specs.Refusal.{refusal_word};
 ghost use Rattle.machine_laws.specs.Machine.{KeepsTime, member_at, refusal_of, after};
 ghost use Rattle.machine_laws.specs.Machine.Step.{fail, grant};
 ghost use Rattle.machine_laws.specs.Moves.{Doing, Scripts, step_by, call_by};
-ghost use Rattle.one_place.specs.Plan.{federate_limit};
+ghost use Rattle.interface_names.specs.Limits.{most_federates};
 ghost use Rattle.one_place.specs.Step.{step_of};
 ghost use Rattle.one_place.specs.Machine.{refusal_at};
 ghost use Rattle.one_place.specs.Reference.{taken_over, plays_of, HasReferenceLogs};
-ghost use Rattle.one_place.specs.Run.{wires_at, play_of, may_move, is_calling, going, passed, calling_step, entry_in, actor_at, actor_after, step_at, IsNextToMove, IsActor, AreActors, AreFollowing, first_actors, PlaysOut, begun_stage};
+ghost use Rattle.one_place.specs.Run.{wires_at, names_at, play_of, may_move, is_calling, going, passed, calling_step, entry_in, actor_at, actor_after, step_at, IsNextToMove, IsActor, AreActors, AreFollowing, GoesOn, first_actors, PlaysOut, begun_stage};
+ghost use Rattle.one_place.specs.Work.{is_answering, HasLess};
 
 use crate::actor::{Actor, actors_of};
 use crate::{CallRefusal, Logs, Machine, MachineStep, Plan, Scenario, Unlawful};
@@ -33,7 +34,7 @@ pub fn reference(alloc: Global, scenario: Scenario) -> Result<Logs, OutOfMemory>
 }
 
 // The machine of a plan, begun.
-fn begun_machine(alloc: Global, plan: Plan) -> Result<Machine, OutOfMemory>
+pub(crate) fn begun_machine(alloc: Global, plan: Plan) -> Result<Machine, OutOfMemory>
     ensures { IfOk result (λ machine. machine ≡ begun_stage plan) }
 {
     let mut machine = Machine::open(alloc, plan)?;
@@ -71,26 +72,37 @@ fn failure(alloc: Global, f: u16, refusal: CallRefusal) -> Result<MachineStep, O
     }
 }
 
-// Whether a federate may act.
-fn may_move(machine: &Machine, f: u16) -> bool
+// Whether a federate may act. The hint is that of `Machine::may_grant`.
+pub(crate) fn may_move(machine: &Machine, f: u16, hint: &mut usize) -> bool
     ensures { result ≡ may_move machine.now f }
 {
     match machine.phase(f) {
         Phase::Initializing | Phase::Running => true,
-        Phase::Entering | Phase::Waiting => machine.refusal(&MachineStep::Grant(f)).is_none(),
+        Phase::Entering | Phase::Waiting => machine.may_grant(f, hint),
         Phase::Created | Phase::Ended(_) => false,
     }
 }
 
-// The least federate that may act.
+// For each federate the place of an ancestor that may hold its grant.
+pub(crate) fn no_hints(alloc: Global, machine: &Machine) -> Result<Vec<usize>, OutOfMemory>
+    ensures { IfOk result (λ hints. hints.items ≡ replicate (length machine.now.state.members) 0) }
+{
+    Ok(vec![in alloc; 0; machine.count()]?)
+}
+
+// The least federate that may act, with the hints of all.
 #[tactic(auto, using(crate::proofs::Scripts::strange_stays))]
-fn next_to_move(machine: &Machine) -> Option<u16>
+pub(crate) fn next_to_move(machine: &Machine, hints: &mut [usize]) -> Option<u16>
     requires { length machine.now.state.members < 2 ^ 16 }
     ensures found { IfSome result (IsNextToMove machine.now) }
     ensures none { IfNone result ((f : ℕ) → may_move machine.now f ≡ false) }
 {
     for f in 0..machine.count() {
-        if may_move(machine, f as u16) {
+        let moves = match hints.get_mut(f) {
+            Some(hint) => may_move(machine, f as u16, hint),
+            None => may_move(machine, f as u16, &mut 0),
+        };
+        if moves {
             return Some(f as u16);
         }
     }
@@ -144,44 +156,69 @@ fn granted(
 ) -> Result<(), OutOfMemory>
     requires lawful { refusal_of (wires_at machine.old) machine.old.state (grant f) ≡ None }
     ensures machine { OnOk result (machine.new ≡ record machine.old { state = after (wires_at machine.old) machine.old.state (grant f) }) }
-    ensures actor { OnOk result (actor.new ≡ record actor.old { view = taken_over actor.old.view (entry_in machine.old.state f) }) }
+    ensures actor { OnOk result (actor.new ≡ record actor.old { view = taken_over (names_at machine.old) actor.old.view (entry_in machine.old.state f) }) }
 {
     machine.apply(MachineStep::Grant(f))?;
     match machine.entries(f).last() {
-        Some(entry) => actor.take_over(alloc, entry),
+        Some(entry) => actor.take_over(alloc, machine, entry),
         None => unreachable!(),
     }
 }
 
-// A federate that may act does so.
-fn turn(
+// A federate that may act does so. Whether it answered a letter.
+pub(crate) fn turn(
     alloc: Global,
     machine: &mut Machine,
     actors: &mut [Actor],
     f: u16,
-) -> Result<(), OutOfMemory>
+) -> Result<bool, OutOfMemory>
     requires moves { may_move machine.old f ≡ true }
     requires within { f < length actors.old }
     requires actors { Each IsActor actors.old }
+    ensures answered { IfOk result (λ answered. answered ≡ is_answering (member_at machine.old.state f).time.phase (actor_at actors.old f)) }
     ensures machine { OnOk result (machine.new ≡ record machine.old { state = after (wires_at machine.old) machine.old.state (step_at machine.old f (actor_at actors.old f)) }) }
     ensures actors { OnOk result (actors.new ≡ slice_set actors.old f (actor_after machine.old f (actor_at actors.old f))) }
 {
     let actor = &mut actors[usize::from(f)];
-    match machine.phase(f) {
-        Phase::Initializing | Phase::Running => call(alloc, machine, f, actor),
-        _ => granted(alloc, machine, f, actor),
+    let phase = machine.phase(f);
+    let answers = actor.is_answering(phase);
+    match phase {
+        Phase::Initializing | Phase::Running => call(alloc, machine, f, actor)?,
+        _ => granted(alloc, machine, f, actor)?,
     }
+    Ok(answers)
+}
+
+// The federates act, always the least that may, until one does more than to answer a letter. Whether
+// one did; else none may act.
+fn play_on(
+    alloc: Global,
+    machine: &mut Machine,
+    actors: &mut [Actor],
+    hints: &mut [usize],
+) -> Result<bool, OutOfMemory>
+    requires few { length machine.old.state.members ≤ most_federates }
+    requires actors { AreActors machine.old.state actors.old }
+    ensures on { OnOk result (GoesOn machine.old actors.old machine.new actors.new) }
+    ensures less { IfOk result (λ more. more ≡ true → HasLess machine.old actors.old machine.new actors.new) }
+    ensures still { IfOk result (λ more. more ≡ false → (f : ℕ) → may_move machine.new f ≡ false) }
+{
+    while let Some(f) = next_to_move(machine, hints) {
+        if !turn(alloc, machine, actors, f)? {
+            return Ok(true);
+        }
+    }
+    Ok(false)
 }
 
 // The federates act, always the least that may, until none may.
 fn play_out(alloc: Global, machine: &mut Machine, actors: &mut [Actor]) -> Result<(), OutOfMemory>
-    requires few { length machine.old.state.members ≤ federate_limit }
+    requires few { length machine.old.state.members ≤ most_federates }
     requires actors { AreActors machine.old.state actors.old }
-    ensures { OnOk result ((plays : Scripts) (calls : List ℕ) → AreFollowing plays machine.old.state calls actors.old →
+    ensures { OnOk result ((plays : Scripts) (calls : List ℕ) → AreFollowing plays machine.old calls actors.old →
         (end : List ℕ) × PlaysOut (wires_at machine.old) plays (play_of machine.old calls) (play_of machine.new end)) }
 {
-    while let Some(f) = next_to_move(machine) {
-        turn(alloc, machine, actors, f)?;
-    }
+    let mut hints = no_hints(alloc, machine)?;
+    while play_on(alloc, machine, actors, &mut hints)? {}
     Ok(())
 }

@@ -1,5 +1,5 @@
-use crate::Plan;
 use fed_script::Script;
+use federation_plan::Plan;
 use hel_lists::Items;
 use std::marker::Model;
 

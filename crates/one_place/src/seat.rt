@@ -1,20 +1,18 @@
 // One federate of the machine: its clock with its queue, and its log, which change together.
-ghost use Rattle.std.specs.Prelude.{◌≡◌, ◌≢◌, ◌≤◌, ◌<◌, ◌^◌, ◌+◌, ◌++◌, ◌∷◌, [], None, OnOk, OnErr, IfOk, true, not, map};
+ghost use Rattle.std.specs.Prelude.{◌≡◌, ◌≢◌, ◌≤◌, ◌++◌, ◌∷◌, [], None, OnOk, OnErr, true, not};
 ghost use Rattle.std.specs.List.{filter};
 ghost use Rattle.hel_lists.specs.Members.{Each};
 ghost use Rattle.helics_time.specs.Stamp.{IsDue};
-ghost use Rattle.helics_time.specs.Time.{max_time, horizon};
+ghost use Rattle.helics_time.specs.Time.{max_time};
 ghost use Rattle.due_queue.specs.Item.{is_due};
 ghost use Rattle.due_queue.specs.Order.{enqueue};
-ghost use Rattle.time_state.specs.Fed.{IsFed, created, zero_stamp, event_of, cut_of, enter_refusal, request_refusal, is_asking, is_live};
-ghost use Rattle.machine_laws.specs.Plan.{item_of};
+ghost use Rattle.time_state.specs.Fed.{IsFed, event_of, cut_of, enter_refusal, request_refusal, is_asking, is_live};
 ghost use Rattle.machine_laws.specs.Machine.{begun_member, entered_member, requested_member, granted_member, ended_member, failed_member};
-ghost use Rattle.one_place.specs.Plan.{leg_to};
-ghost use Rattle.one_place.specs.Members.{dues_of, member_of, IsSeat, IsSeatOf, with_queue, taken_back, halted_member};
+ghost use Rattle.one_place.specs.Members.{dues_of, member_of, new_clock, IsSeat, IsSeatOf, with_queue, taken_back, halted_if};
 
-use due_queue::{Content, DueQueue, Item};
-use hel_lists::{Copied, OutOfMemory};
-use hel_values::{EndRef, TextValue, Value};
+use due_queue::{DueQueue, Item};
+use hel_lists::OutOfMemory;
+use hel_values::TextValue;
 use helics_time::{Settings, Stamp};
 use iteration_rules::Mode;
 use machine_laws::{FedLog, LogEnd, LogEntry};
@@ -34,7 +32,7 @@ pub struct Clock {
 impl Clock {
     /// A federate that is Created.
     pub fn new(alloc: Global, settings: Settings) -> Clock
-        ensures { result ≡ record { time = created settings; seq = 0; queue = []; event = zero_stamp } }
+        ensures { result ≡ new_clock settings }
     {
         Clock {
             time: FedTime::new(settings),
@@ -51,58 +49,6 @@ impl Clock {
         ensures dues { Each (λ i. IsDue i.due) self.new.queue }
     {
         self.event = event_over(&self.time, &self.queue);
-    }
-
-    // The item of a publication to one of its targets.
-    #[tactic(auto, using(crate::proofs::Events::sent_due, crate::proofs::Events::own_due))]
-    fn sent(
-        &self,
-        alloc: Global,
-        publication: EndRef,
-        value: &Value,
-        target: EndRef,
-    ) -> Result<Item, OutOfMemory>
-        requires fed { IsFed self.now.time }
-        requires low { self.now.time.last.time < horizon }
-        requires small { self.now.time.last.micro < 2 ^ 62 }
-        ensures { IfOk result (λ item. item ≡ item_of self.now.time publication.fed self.now.seq (leg_to publication value.now target)) }
-    {
-        let due = if target.fed == publication.fed {
-            self.time.last_cut().next()
-        } else {
-            self.time.own().next()
-        };
-        Ok(Item {
-            source: publication.fed,
-            seq: self.seq,
-            target: target.fed,
-            due,
-            content: Content::Value {
-                input: target.index,
-                publication,
-                value: value.copy(alloc)?,
-            },
-        })
-    }
-
-    /// The items of a publication, one to each of its targets.
-    pub fn published(
-        &self,
-        alloc: Global,
-        publication: EndRef,
-        value: &Value,
-        targets: &[EndRef],
-    ) -> Result<Vec<Item>, OutOfMemory>
-        requires fed { IsFed self.now.time }
-        requires low { self.now.time.last.time < horizon }
-        requires small { self.now.time.last.micro < 2 ^ 62 }
-        ensures { IfOk result (λ items. items.items ≡ map (item_of self.now.time publication.fed self.now.seq) (map (leg_to publication value.now) targets.now)) }
-    {
-        let mut items = Vec::with_capacity(alloc, targets.len())?;
-        for target in targets {
-            items.push(self.sent(alloc, publication, value, *target)?)?;
-        }
-        Ok(items)
     }
 
     /// Puts an item into its queue.
@@ -232,12 +178,12 @@ pub fn fail(clock: &mut Clock, log: &mut FedLog, text: TextValue)
     clock.refresh();
 }
 
-/// A federate that lives is halted by `fed`.
-pub fn halt(clock: &mut Clock, log: &mut FedLog, fed: u16)
+/// A federate that stands there and lives is halted by `fed`.
+pub fn halt(clock: &mut Clock, log: &mut FedLog, there: bool, fed: u16)
     requires { IsSeat clock.old log.old }
-    ensures { IsSeatOf clock.new log.new (halted_member fed (member_of clock.old log.old)) clock.old.queue }
+    ensures { IsSeatOf clock.new log.new (halted_if there fed (member_of clock.old log.old)) clock.old.queue }
 {
-    if !matches!(clock.time.phase(), Phase::Ended(_)) {
+    if there && !matches!(clock.time.phase(), Phase::Ended(_)) {
         end(clock, log, Cause::Halted { fed });
     }
 }

@@ -1,4 +1,4 @@
-use Rattle.one_place.proofs.Plans.{reference_runs}
+use Rattle.one_place.proofs.Accepting.{reference_runs}
 use Rattle.one_place.proofs.laws.reference_runs.Goals as goal
 
 pub returns : goal.returns

@@ -1,7 +1,6 @@
-use Rattle.std.proofs.Common.{◌≡◌}
-use Rattle.std.specs.Prelude.{replicate}
-use Rattle.one_place.specs.Members.{blank_clock}
+use Rattle.std.proofs.Common.{◌≡◌, take}
+use Rattle.one_place.specs.Members.{new_clocks}
 use Rattle.one_place.proofs.members.new_clocks.Given as goal
 
-abbrev pub invariant-loop : goal.invariant-loop
-invariant-loop l = l.clocks.items ≡ replicate l.counter blank_clock
+abbrev pub invariant-loop-federate : goal.invariant-loop-federate
+invariant-loop-federate l = l.clocks.items ≡ new_clocks (take l.federate-index l.federates)

@@ -1,32 +1,17 @@
-use Rattle.std.proofs.Common.{◌≡◌, ◌∙◌, ap}
-use Rattle.one_place.specs.Machine.{Stage}
 use Rattle.one_place.specs.Run.{play_of}
-use Rattle.one_place.proofs.Turns.{turned, first_move, no_move}
+use Rattle.one_place.proofs.Turns.{stays_there, goes_through, no_move}
 use Rattle.one_place.proofs.run.play_out.Goals as goal
 
-pub loop-f-smaller : goal.loop-f-smaller
-loop-f-smaller c =
-    (turned c.loop-f.machine c.turn.new.machine c.in-Some.f c.loop-f.actors c.turn.new.actors c.loop-f.invariant.actors c.in-Some.ensures.found.moves
-    c.in_ok-turn.ensures.machine c.in_ok-turn.ensures.actors).falls
+pub loop-hints-init : goal.loop-hints-init
+loop-hints-init c = stays_there c.args.machine.now c.args.actors.now c.requires.actors
 
-pub loop-f-preserved : goal.loop-f-preserved
-loop-f-preserved c =
-    let turn = turned c.loop-f.machine c.turn.new.machine c.in-Some.f c.loop-f.actors c.turn.new.actors c.loop-f.invariant.actors c.in-Some.ensures.found.moves
-    c.in_ok-turn.ensures.machine c.in_ok-turn.ensures.actors in
-    let plan : c.turn.new.machine.plan ≡ c.loop-f.machine.plan = ap (λ (s : Stage). s.plan) c.in_ok-turn.ensures.machine in
-    record {
-      plan = plan ∙ c.loop-f.invariant.plan;
-      actors = turn.ready;
-      more = λ plays calls follows.
-          (let now = c.loop-f.invariant.more plays calls follows in
-          let moved = turn.moves plays now.0 now.1 in (
-            moved.0,
-            moved.2,
-            (λ end rest. now.2 end (first_move c.loop-f.machine c.turn.new.machine plays now.0 moved.0 c.in-Some.f end c.in-Some.ensures.found moved.1 plan rest)),
-          ));
-    }
+pub loop-hints-preserved : goal.loop-hints-preserved
+loop-hints-preserved c =
+    goes_through c.args.machine.now c.loop-hints.machine c.play_on.new.machine c.args.actors.now c.loop-hints.actors c.play_on.new.actors c.loop-hints.invariant c.in_ok-play_on.ensures.on
 
 pub returns : goal.returns
 returns c = λ plays calls follows.
-    let now = c.loop-f.invariant.more plays calls follows in
-    (now.0, now.2 (play_of c.loop-f.machine now.0) (no_move c.loop-f.machine plays now.0 c.in_default.ensures.none))
+    let end = c.play_on.new.machine in
+    let on = goes_through c.args.machine.now c.loop-hints.machine end c.args.actors.now c.loop-hints.actors c.play_on.new.actors c.loop-hints.invariant c.in_ok-play_on.ensures.on in
+    let now = on.more plays calls follows in
+    (now.0, now.2 (play_of end now.0) (no_move end plays now.0 (c.in_ok-play_on.ensures.still c.if-branch.false)))

@@ -2,9 +2,10 @@ use Rattle.std.proofs.Common.{◌≡◌, ◌∙◌, List, ap, sym, subst, length
 use Rattle.std.specs.Prelude.{replicate}
 use Rattle.machine_laws.specs.Moves.{Play}
 use Rattle.one_place.specs.declared.actor.Actor.{Actor}
-use Rattle.one_place.specs.declared.plan.Federate.{Federate}
+use Rattle.interface_names.specs.declared.records.FederateRecord.{FederateRecord}
 use Rattle.one_place.specs.Machine.{Stage}
-use Rattle.one_place.specs.Plan.{Federation, wires_of}
+use Rattle.federation_plan.specs.Plan.{Federation}
+use Rattle.federation_plan.specs.Wires.{wires_of}
 use Rattle.one_place.specs.Reference.{plays_of, HasReferenceLogs}
 use Rattle.one_place.specs.Run.{play_of, wires_at, AreActors, AreFollowing, PlaysOut, first_actors, begun_stage}
 use Rattle.one_place.specs.Scene.{Scene}
@@ -17,7 +18,7 @@ play_out-requires-clause-actors c =
     let scripts = c.scenario.inside.scripts in
     let machine : c.in_ok-machine.machine ≡ begun_stage p = c.in_ok-machine.ensures in
     let actors : c.deref_mut.result.now ≡ first_actors p.federates scripts =
-    c.deref_mut.ensures.value ∙ c.in_ok-actors.ensures ∙ ap (λ (feds : List Federate). first_actors feds scripts) c.federates.ensures.federates in
+    c.deref_mut.ensures.value ∙ c.in_ok-actors.ensures ∙ ap (λ (feds : List FederateRecord). first_actors feds scripts) c.federates.ensures.federates in
     subst (λ (s : Stage). AreActors s.state c.deref_mut.result.now) (sym machine)
     (subst (λ (xs : List Actor). AreActors (begun_stage p).state xs) (sym actors) (first_are p scripts c.scenario.invariant.each c.scenario.invariant.rules))
 
@@ -28,9 +29,9 @@ returns c =
     let none = replicate (length p.federates) 0 in
     let machine : c.in_ok-machine.machine ≡ begun_stage p = c.in_ok-machine.ensures in
     let actors : c.deref_mut.result.now ≡ first_actors p.federates scripts =
-    c.deref_mut.ensures.value ∙ c.in_ok-actors.ensures ∙ ap (λ (feds : List Federate). first_actors feds scripts) c.federates.ensures.federates in
-    let following = subst (λ (s : Stage). AreFollowing (plays_of p scripts) s.state none c.deref_mut.result.now) (sym machine)
-    (subst (λ (xs : List Actor). AreFollowing (plays_of p scripts) (begun_stage p).state none xs) (sym actors) (first_follow p scripts c.scenario.invariant.each)) in
+    c.deref_mut.ensures.value ∙ c.in_ok-actors.ensures ∙ ap (λ (feds : List FederateRecord). first_actors feds scripts) c.federates.ensures.federates in
+    let following = subst (λ (s : Stage). AreFollowing (plays_of p scripts) s none c.deref_mut.result.now) (sym machine)
+    (subst (λ (xs : List Actor). AreFollowing (plays_of p scripts) (begun_stage p) none xs) (sym actors) (first_follow p scripts c.scenario.invariant.each)) in
     let out = c.in_ok-play_out.ensures (plays_of p scripts) none following in
     let end : Play = play_of c.play_out.new.machine out.0 in
     let from : PlaysOut (wires_of p) (plays_of p scripts) (play_of (begun_stage p) none) end =

@@ -1,6 +1,6 @@
 use Rattle.std.proofs.Common.{◌≡◌, ◌<◌, arith, length}
 use Rattle.one_place.specs.Run.{IsActor}
-use Rattle.one_place.proofs.Building.{each_at}
+use Rattle.one_place.proofs.Held.{each_at}
 use Rattle.one_place.proofs.run.turn.Goals as goal
 
 pub call-requires-clause-rules : goal.call-requires-clause-rules

@@ -18,6 +18,6 @@ pub returns-clause-ok : goal.returns-clause-ok
 returns-clause-ok c =
     let cut : c.cut_at-cut.result ≡ cut_at c.args.clock.now.time c.args.clock.now.event = c.cut_at-cut.ensures in
     granted_seat c.args.clock.now c.args.log.now c.grant_at.new.self c.push.new.self c.in_ok-items.items c.drop_due.new.queue c.requires.seat c.requires.asks
-    c.grant_at.ensures.after (c.in_ok-items.ensures ∙ ap (λ (s : At). filter (is_due s) c.args.clock.now.queue) cut)
+    c.grant_at.ensures.after (c.in_ok-items.ensures.copies ∙ ap (λ (s : At). filter (is_due s) c.args.clock.now.queue) cut)
     (c.drop_due.ensures ∙ ap (λ (s : At). filter (λ (i : Parcel). not (is_due s i)) c.args.clock.now.queue) cut)
     (c.in_ok-push.ensures.ok ∙ ap (λ (g : Grant). c.args.log.now.entries ++ (record { grant = g; items = c.in_ok-items.items }) ∷ []) c.next_grant_at.ensures)

@@ -6,7 +6,7 @@ use Rattle.machine_laws.specs.declared.refusal.Unlawful.TheVariants.{Early}
 use Rattle.machine_laws.specs.Plan.{Plan}
 use Rattle.machine_laws.specs.Machine.{State, cut_in, event_in}
 use Rattle.one_place.specs.Machine.{Stage}
-use Rattle.one_place.specs.Plan.{wires_of}
+use Rattle.federation_plan.specs.Wires.{wires_of}
 use Rattle.one_place.proofs.Lawful.{holder_next, holder_found}
 use Rattle.one_place.proofs.machine.Machine.holder.Goals as goal
 

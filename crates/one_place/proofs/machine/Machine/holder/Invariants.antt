@@ -1,7 +1,7 @@
 use Rattle.std.proofs.Common.{◌≡◌, drop}
 use Rattle.dependency_paths.specs.Paths.{row_of}
 use Rattle.machine_laws.specs.Machine.{cut_in, holder_in}
-use Rattle.one_place.specs.Plan.{wires_of}
+use Rattle.federation_plan.specs.Wires.{wires_of}
 use Rattle.one_place.proofs.machine.Machine.holder.Given as goal
 
 abbrev pub invariant-loop-ancestor : goal.invariant-loop-ancestor

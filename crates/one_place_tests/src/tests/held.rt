@@ -1,0 +1,203 @@
+// Steps that are refused: of strange numbers, and grants that an ancestor holds.
+ghost use Rattle.machine_laws.specs.Machine.{KeepsTime};
+ghost use Rattle.one_place.specs.Step.{step_of};
+
+use super::plans::{Row, THREE, plan_of};
+use super::{BEGIN, machine_after, step_at};
+use hel_values::ValueKind;
+use helics_time::Stamp;
+use iteration_rules::Mode;
+use one_place::{Machine, MachineStep, Unlawful};
+use std::alloc::Global;
+use std::process::Abort;
+use std::test::Fail;
+use time_state::Phase;
+
+// Each kind of step but Begin, of a federate that the plan doesn't have; a Halt of the core that there is, and of none.
+#[test]
+fn each_step_of_a_strange_number_is_refused(rt: HostRuntime) -> Result<(), Fail> {
+    for f in [THREE.len() as u16, u16::MAX] {
+        for place in 1..16 {
+            let mut machine = machine_after(rt.alloc(), &[(0, BEGIN)])?;
+            let before = format!(in rt.alloc(); "{machine:?}")?;
+            let answer = machine.step(step_at(rt.alloc(), f, place)?);
+            assert_eq!(rt; answer, Err(Unlawful::StrangeNumber), "{f} {place}");
+            let after = format!(in rt.alloc(); "{machine:?}")?;
+            assert_eq!(rt; after.as_str(), before.as_str(), "{f} {place}");
+        }
+    }
+    Ok(())
+}
+
+const INT: &[ValueKind] = &[ValueKind::Int];
+
+// The last hears the two others, and the first does.
+const LAST_HEARS: [Row; 3] = [(INT, &[]), (INT, &[]), (&[], &["A/x", "B/x"])];
+
+const FIRST_HEARS: [Row; 3] = [(&[], &["B/x", "C/x"]), (INT, &[]), (INT, &[])];
+
+// The last hears the second, and that the first.
+const CHAIN: [Row; 3] = [(INT, &[]), (INT, &["A/x"]), (&[], &["B/x"])];
+
+#[derive(Clone, Copy)]
+enum Do {
+    Enter(u16),
+    Ask(u16, u32),
+    Granted(u16),
+}
+
+use Do::{Ask, Enter, Granted};
+
+fn step_of(step: Do) -> MachineStep
+    ensures { KeepsTime (step_of result) }
+{
+    match step {
+        Enter(fed) => MachineStep::Enter(fed),
+        Ask(fed, time) => MachineStep::Request {
+            fed,
+            time: u64::from(time),
+            mode: Mode::Next,
+        },
+        Granted(fed) => MachineStep::Grant(fed),
+    }
+}
+
+// A plan, steps behind Begin, the federate that asks, and the ancestor by which its grant is early, with its event.
+type Held = (&'static [Row], &'static [Do], u16, u16, (u64, u64));
+
+const HELD: [Held; 7] = [
+    // Those who haven't entered could still publish at (0, 0).
+    (&LAST_HEARS, &[Enter(2)], 2, 0, (0, 0)),
+    (&LAST_HEARS, &[Enter(0), Enter(2)], 2, 1, (0, 0)),
+    // The least of two is named, though the other acts before it.
+    (
+        &LAST_HEARS,
+        &[
+            Enter(0),
+            Enter(1),
+            Enter(2),
+            Granted(0),
+            Granted(1),
+            Granted(2),
+            Ask(0, 20),
+            Ask(1, 10),
+            Ask(2, 100),
+        ],
+        2,
+        0,
+        (20, 0),
+    ),
+    (
+        &LAST_HEARS,
+        &[
+            Enter(0),
+            Enter(1),
+            Enter(2),
+            Granted(0),
+            Granted(1),
+            Granted(2),
+            Ask(0, 100),
+            Ask(1, 10),
+            Ask(2, 100),
+        ],
+        2,
+        1,
+        (10, 0),
+    ),
+    (
+        &FIRST_HEARS,
+        &[
+            Enter(0),
+            Enter(1),
+            Enter(2),
+            Granted(2),
+            Granted(1),
+            Granted(0),
+            Ask(2, 10),
+            Ask(1, 20),
+            Ask(0, 100),
+        ],
+        0,
+        1,
+        (20, 0),
+    ),
+    (
+        &FIRST_HEARS,
+        &[
+            Enter(0),
+            Enter(1),
+            Enter(2),
+            Granted(2),
+            Granted(1),
+            Granted(0),
+            Ask(1, 20),
+            Granted(1),
+            Ask(1, 200),
+            Ask(0, 100),
+        ],
+        0,
+        2,
+        (0, 1),
+    ),
+    // An ancestor of an ancestor holds it too.
+    (
+        &CHAIN,
+        &[
+            Enter(0),
+            Enter(1),
+            Enter(2),
+            Granted(0),
+            Granted(1),
+            Granted(2),
+            Ask(0, 20),
+            Ask(1, 10),
+            Ask(2, 100),
+        ],
+        2,
+        0,
+        (20, 0),
+    ),
+];
+
+// The grant is early, and each time that it is tried the machine has the same phases and logs as before.
+fn is_held(
+    rt: &impl Abort,
+    alloc: Global,
+    machine: &mut Machine,
+    f: u16,
+    early: Unlawful,
+) -> Result<(), Fail> {
+    let before = format!(in alloc; "{machine:?}")?;
+    let phase = machine.phase(f);
+    assert!(rt; matches!(phase, Phase::Entering | Phase::Waiting));
+    let logs = format!(in alloc; "{:?}", machine.logs())?;
+    for _ in 0..2 {
+        assert_eq!(rt; machine.step(MachineStep::Grant(f)), Err(early));
+        assert_eq!(rt; machine.phase(f), phase);
+        let logs_after = format!(in alloc; "{:?}", machine.logs())?;
+        assert_eq!(rt; logs_after.as_str(), logs.as_str());
+        let after = format!(in alloc; "{machine:?}")?;
+        assert_eq!(rt; after.as_str(), before.as_str());
+    }
+    Ok(())
+}
+
+#[test]
+fn the_least_ancestor_holds_a_grant(rt: HostRuntime) -> Result<(), Fail> {
+    for (rows, steps, f, holder, (time, micro)) in HELD {
+        let mut machine = Machine::open(rt.alloc(), plan_of(rt.alloc(), rows)?)?;
+        machine.step(MachineStep::Begin)?;
+        for step in steps {
+            machine.step(step_of(*step))?;
+        }
+        let stamp = Stamp { time, micro };
+        is_held(
+            &rt,
+            rt.alloc(),
+            &mut machine,
+            f,
+            Unlawful::Early { holder, stamp },
+        )?;
+    }
+    Ok(())
+}
