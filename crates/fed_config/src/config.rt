@@ -1,6 +1,7 @@
 // A federate file.
-ghost use Rattle.std.specs.Prelude.{◌≡◌, ◌≢◌, ◌⊎◌, ◌≤◌, ◌^◌, ◌++◌, ◌*◌, IfOk, codes, length};
+ghost use Rattle.std.specs.Prelude.{◌≡◌, ◌≢◌, ◌⊎◌, ◌≤◌, ◌^◌, ◌++◌, ◌*◌, IfOk, IfSome, codes, length};
 ghost use Rattle.serde_json.specs.View.{view};
+ghost use Rattle.fed_script.specs.Script.{IsCourse};
 ghost use Rattle.json_reading.specs.Keys.{pairs_of};
 ghost use Rattle.json_reading.specs.Reading.{Gives, no_memory, refused};
 ghost use Rattle.fed_config.specs.Names.{HasFew};
@@ -47,7 +48,8 @@ const MOST_INTERFACES: usize = 32_768;
 /// want of memory the path is empty.
 #[tactic(auto, unfolding(crate::specs::Federate::config_of))]
 pub fn read_federate(alloc: Global, bytes: &[u8]) -> Result<FederateConfig, ConfigRefusal>
-    ensures { Answers result (config_of bytes.now) }
+    ensures answer { Answers result (config_of bytes.now) }
+    ensures rules { IfOk result (λ c. IfSome c.script IsCourse) }
 {
     let read = match parse(alloc, bytes) {
         Ok(Some(value)) => federate(alloc, &value),
@@ -79,7 +81,8 @@ fn in_file(alloc: Global, refusal: ConfigRefusal) -> ConfigRefusal
 
 #[tactic(auto, unfolding(crate::specs::Federate::federate_of))]
 fn federate(alloc: Global, value: &Value) -> Result<FederateConfig, ConfigRefusal>
-    ensures { Gives (λ c. c) result (federate_of (view value.now)) }
+    ensures read { Gives (λ c. c) result (federate_of (view value.now)) }
+    ensures rules { IfOk result (λ c. IfSome c.script IsCourse) }
 {
     let keys = [
         "name",

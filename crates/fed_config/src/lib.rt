@@ -7,8 +7,6 @@ mod interfaces;
 mod names;
 mod places;
 mod scripts;
-#[cfg(test)]
-mod tests;
 mod values;
 mod verbs;
 mod words;

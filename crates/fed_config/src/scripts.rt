@@ -1,9 +1,9 @@
 // The scripts of a federate file.
-ghost use Rattle.std.specs.Prelude.{◌≡◌, ◌<◌, ◌++◌, true, nat_lt, codes, IfOk, OnOk};
+ghost use Rattle.std.specs.Prelude.{◌≡◌, ◌<◌, ◌++◌, true, nat_lt, codes, IfOk, IfSome, OnOk};
 ghost use Rattle.serde_json.specs.View.{view, items_view};
 ghost use Rattle.json_reading.specs.Keys.{pairs_of};
 ghost use Rattle.json_reading.specs.Reading.{Read, Gives, needed_at};
-ghost use Rattle.fed_script.specs.Script.{NamesTime};
+ghost use Rattle.fed_script.specs.Script.{NamesTime, IsCourse};
 ghost use Rattle.fed_script.specs.declared.word.Word.{Word as ScriptWord};
 ghost use Rattle.fed_config.specs.Names.{known, step_words, StepNamesTime};
 ghost use Rattle.fed_config.specs.Scripts.{head_of, publishing_of, sending_of, publish_of, publish_sum_of, send_of, echo_of, request_of, advance_of, iterate_of, fail_of, one, repeat_of, action_of, words_in, words_from, body_of, script_words, not_allowed, initial_of, script_of};
@@ -357,7 +357,8 @@ pub fn script(
     names: &Names,
     object: &Object,
 ) -> Result<Option<Script>, ConfigRefusal>
-    ensures { Gives (λ s. s) result (script_of (known names.now) (pairs_of object.now.entries)) }
+    ensures read { Gives (λ s. s) result (script_of (known names.now) (pairs_of object.now.entries)) }
+    ensures rules { IfOk result (λ s. IfSome s IsCourse) }
 {
     let list = ListOf {
         reader: InitialReader { names },

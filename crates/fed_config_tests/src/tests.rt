@@ -1,4 +1,6 @@
-use crate::{FederateConfig, read_federate};
+mod scripts;
+
+use fed_config::{ConfigCause, FederateConfig, read_federate};
 use hel_lists::{Items, Text};
 use interface_names::{EndRecord, FilterKind, FilterRecord, InputRecord, PubRecord};
 use std::alloc::Global;
@@ -229,6 +231,18 @@ fn refused_files(rt: HostRuntime) -> Result<(), Fail> {
     Ok(())
 }
 
+const NO_TEXTS: [&[u8]; 3] = [b"{\"name\":\"\xff\"}", b"\xef\xbb\xbf{}", b"\xc0\x80"];
+
+#[test]
+fn files_that_are_no_texts(rt: HostRuntime) -> Result<(), Fail> {
+    for file in NO_TEXTS {
+        let refusal = read_federate(rt.alloc(), file).err().ok_or("a refusal")?;
+        assert_eq!(rt; refusal.cause, ConfigCause::NotJson);
+        assert_eq!(rt; refusal.path.as_str(), "/");
+    }
+    Ok(())
+}
+
 const READ: [(&str, &str); 13] = [
     ("{}", "unnamed ; 0 0 0 0 0 false false 50"),
     (
@@ -288,24 +302,34 @@ fn read_files(rt: HostRuntime) -> Result<(), Fail> {
 }
 
 #[test]
-fn limits_of_lists_and_names(rt: HostRuntime) -> Result<(), Fail> {
+fn length_of_a_name(rt: HostRuntime) -> Result<(), Fail> {
     for (count, told) in [(1_024, "named"), (1_025, "OutOfRange /name")] {
         let name = String::from_utf8(vec![in rt.alloc(); b'x'; count]?)?;
         let file = format!(in rt.alloc(); "{{\"name\":\"{name}\"}}")?;
         let answer = shown(rt.alloc(), file.as_str())?;
         assert!(rt; answer.starts_with(told), "{count}");
     }
-    for (count, told) in [
-        (32_767, "NotAnObject /filters/32767"),
-        (32_768, "OutOfRange /filters"),
-    ] {
-        let mut file = String::from_str(rt.alloc(), "{\"filters\":[")?;
-        for _ in 0..count {
-            file.push_str(
-                "{\"operation\":\"delay\",\"properties\":{\"name\":\"delay\",\"value\":1}},",
-            )?;
+    Ok(())
+}
+
+// How many items a list has, and whether it is refused for that before its items are.
+const LENGTHS: [(usize, &str, &str); 6] = [
+    (32_768, "publications", "NotAnObject /publications/0"),
+    (32_769, "publications", "OutOfRange /publications"),
+    (32_769, "subscriptions", "OutOfRange /subscriptions"),
+    (32_769, "inputs", "OutOfRange /inputs"),
+    (32_769, "endpoints", "OutOfRange /endpoints"),
+    (32_769, "filters", "OutOfRange /filters"),
+];
+
+#[test]
+fn lengths_of_lists(rt: HostRuntime) -> Result<(), Fail> {
+    for (count, key, told) in LENGTHS {
+        let mut file = format!(in rt.alloc(); "{{\"{key}\":[1")?;
+        for _ in 1..count {
+            file.push_str(",1")?;
         }
-        file.push_str("1]}")?;
+        file.push_str("]}")?;
         let answer = shown(rt.alloc(), file.as_str())?;
         assert_eq!(rt; answer.as_str(), told);
     }

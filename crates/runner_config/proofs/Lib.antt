@@ -1,0 +1,9 @@
+pub mod Ascending
+pub mod Folders
+pub mod Fronts
+pub mod Growing
+pub mod NameTables
+pub mod Prefixes
+pub mod Rows
+pub mod Splits
+pub mod Valid

@@ -1,0 +1,10 @@
+pub mod Counts
+pub mod Entries
+pub mod Fields
+pub mod Names
+pub mod Nodes
+pub mod Paths
+pub mod Runner
+pub mod Shape
+pub mod Splitting
+pub mod Told

@@ -1,0 +1,35 @@
+//! Joining of paths (docs/FORMATS.md, Paths).
+ghost use Rattle.std.specs.Prelude.{◌≡◌, IfOk, string_bytes};
+ghost use Rattle.runner_config.specs.Paths.{folder_of, begins_with_slash, joined};
+
+use hel_lists::OutOfMemory;
+use std::alloc::Global;
+
+/// What stands before a path's last slash, and `.` where there is none.
+pub fn folder_of(path: &str) -> &str
+    ensures { result.now ≡ folder_of path.now }
+{
+    match path.rfind('/') {
+        Some(at) => &path[..at],
+        None => ".",
+    }
+}
+
+fn begins_with_slash(path: &[u8]) -> bool
+    ensures { result ≡ begins_with_slash path.now }
+{
+    matches!(path, [b'/', ..])
+}
+
+/// The path `path` as it is seen from `folder`.
+pub fn joined(alloc: Global, folder: &str, path: &str) -> Result<String, OutOfMemory>
+    ensures { IfOk result (λ text. string_bytes text ≡ joined folder.now path.now) }
+{
+    if begins_with_slash(path.as_bytes()) || folder == "." {
+        return Ok(String::from_str(alloc, path)?);
+    }
+    if path == "." {
+        return Ok(String::from_str(alloc, folder)?);
+    }
+    Ok(format!(in alloc; "{folder}/{path}")?)
+}
