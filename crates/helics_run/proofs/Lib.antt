@@ -1,14 +1,2 @@
-pub mod Counts
-pub mod Digits
-pub mod Folders
-pub mod Lists
-pub mod NameTables
-pub mod Parsing
-pub mod Orders
-pub mod ForEach
-pub mod KnownPlaces
-pub mod Federates
-pub mod Settings
-pub mod Spoken
-pub mod Told
-pub mod Written
+mod Once
+mod Stuck

@@ -1,22 +1,49 @@
 -- What the parts of the program answer.
-use Rattle.std.specs.Prelude.{ℕ, ◌≡◌, ◌⊎◌, Bool, List, Option, Result, Ok, Err, String, string_bytes}
-use Rattle.std.specs.declared.alloc.Global.{Global}
+use Rattle.std.specs.Prelude.{ℕ, ◌≡◌, ◌⊎◌, List, Option, Result, Ok, Err}
 use Rattle.hel_outside.specs.Faults.{Rose, Gains}
+use Rattle.command_words.specs.declared.Verb.{Verb}
+use Rattle.command_words.specs.declared.WordsRefusal.{WordsRefusal}
+use Rattle.command_words.specs.declared.WordsRefusal.TheVariants as words
+use Rattle.scenario_reading.specs.declared.unread.Unread.{Unread}
+use Rattle.scenario_reading.specs.declared.unread.Unread.TheVariants as unread
 use Rattle.helics_run.specs.declared.failure.Failure.{Failure}
 use Rattle.helics_run.specs.declared.failure.Failure.TheVariants.{BadWords, FileFault, Refused, OutOfMemory}
-use Rattle.helics_run.specs.declared.command.Run.{Run}
 use Rattle.helics_run.specs.declared.status.Status.{Status}
 use Rattle.helics_run.specs.declared.status.Status.TheVariants.{SinkFault}
-use Rattle.helics_run.specs.Words.{IsSim}
-use Rattle.helics_run.specs.Command.{Content, ReadsBy, AsksBy, IsRunText}
+use Rattle.helics_run.specs.declared.printing.Printed.{Printed}
+use Rattle.helics_run.specs.Printing.{Content, PrintsBy, RefusesBy, AsksBy}
+use Rattle.helics_run.specs.Command.{AskFor, Prints, Refuses, AsksAt}
 
--- the run for these words over files of this content, or why there is none
-abbrev pub Answers : Content → List (List ℕ) → Result Run Failure → Type 0
-Answers content words (Ok run) = IsSim words × IsRunText content words run.is_live (string_bytes run.text)
-Answers content words (Err BadWords) = ¬ IsSim words
-Answers content words (Err (FileFault path)) = IsSim words × AsksBy content words path
-Answers content words (Err (Refused refusal)) = IsSim words × ReadsBy content words (Err refusal)
+-- failures of the parts below
+abbrev pub failure_of_words : WordsRefusal → Failure
+failure_of_words words.BadWords = BadWords
+failure_of_words words.OutOfMemory = OutOfMemory
+
+abbrev pub failure_of_unread : Unread → Failure
+failure_of_unread (unread.FileFault path) = FileFault path
+failure_of_unread (unread.Refused refusal) = Refused refusal
+failure_of_unread unread.OutOfMemory = OutOfMemory
+
+-- what is printed of the file for this word, or why nothing is
+abbrev pub AnswersBy : Content → Verb → List ℕ → Result Printed Failure → Type 0
+AnswersBy content verb file (Ok p) = PrintsBy content verb file p
+AnswersBy content verb file (Err BadWords) = ⊥
+AnswersBy content verb file (Err (FileFault path)) = AsksBy content verb file path
+AnswersBy content verb file (Err (Refused refusal)) = RefusesBy content verb file refusal
+AnswersBy content verb file (Err OutOfMemory) = Unit {0}
+
+-- the same for all words
+abbrev pub Answers : Content → List (List ℕ) → Result Printed Failure → Type 0
+Answers content words (Ok p) = Prints content words p
+Answers content words (Err BadWords) = ¬ AskFor words
+Answers content words (Err (FileFault path)) = AsksAt content words path
+Answers content words (Err (Refused refusal)) = Refuses content words refusal
 Answers content words (Err OutOfMemory) = Unit {0}
+
+-- the count of faults rose only in a failed read, whose path is kept
+abbrev pub CountsFaults : {X : Type 0} → Result X Failure → ℕ → ℕ → List ℕ → Type 0
+CountsFaults (Err (FileFault path)) before after failed_path = Rose before after × (failed_path ≡ path)
+CountsFaults result before after failed_path = after ≡ before
 
 -- the sink gained the line and the status is this one, or the sink failed
 abbrev pub Tells : Status → List ℕ → Status → Option (List ℕ) → Option (List ℕ) → ℕ → ℕ → Type 0

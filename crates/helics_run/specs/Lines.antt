@@ -1,8 +1,13 @@
 -- The lines that the program writes to its standard error.
-use Rattle.std.specs.Prelude.{ℕ, List, [], ◌∷◌, ◌++◌, codes}
-use Rattle.helics_run.specs.declared.failure.Refusal.{Refusal}
-use Rattle.helics_run.specs.declared.failure.RefusalName.{RefusalName}
-use Rattle.helics_run.specs.declared.failure.RefusalName.TheVariants.{FileTooLarge, NoFederates, NotBuilt}
+use Rattle.std.specs.Prelude.{ℕ, List, [], ◌∷◌, ◌++◌, codes, slice_get}
+use Rattle.std.specs.Option.{option_map_or}
+use Rattle.json.specs.Print.{quoted}
+use Rattle.interface_names.specs.declared.records.FederateRecord.{FederateRecord}
+use Rattle.machine_laws.specs.declared.logs.FedLog.{FedLog}
+use Rattle.machine_laws.specs.declared.logs.LogEnd.{LogEnd}
+use Rattle.machine_laws.specs.declared.logs.LogEnd.TheVariants.{Ended, FailedText, Open}
+use Rattle.scenario_reading.specs.Refusals.{text_of}
+use Rattle.scenario_reading.specs.declared.refusal.Refusal.{Refusal}
 
 -- the program's name, the text and a line feed
 abbrev pub error_line : List ℕ → List ℕ
@@ -23,11 +28,22 @@ stuck = codes "stuck"
 abbrev pub out_of_memory : List ℕ
 out_of_memory = codes "out of memory"
 
-abbrev pub name_of : RefusalName → List ℕ
-name_of FileTooLarge = codes "FileTooLarge"
-name_of NoFederates = codes "NoFederates"
-name_of NotBuilt = codes "NotBuilt"
-
 -- a refusal's name and detail
 abbrev pub refused : Refusal → List ℕ
-refused refusal = codes "refused: " ++ name_of refusal.name ++ codes ": " ++ refusal.detail
+refused refusal = codes "refused: " ++ text_of refusal
+
+-- the text of a failure
+abbrev pub failure_text : LogEnd → List ℕ
+failure_text (FailedText text) = text
+failure_text (Ended cause) = []
+failure_text (Open phase) = []
+
+abbrev pub name_at : List FederateRecord → ℕ → List ℕ
+name_at feds f = option_map_or (λ (fed : FederateRecord). fed.name) (slice_get feds f) []
+
+abbrev pub failure_at : List FedLog → ℕ → List ℕ
+failure_at logs f = option_map_or (λ (l : FedLog). failure_text l.end) (slice_get logs f) []
+
+-- the federate whose failure ended the run, by its name, and the failure's text as JSON text
+abbrev pub halted_by : List FederateRecord → List FedLog → ℕ → List ℕ
+halted_by feds logs f = codes "halted by " ++ name_at feds f ++ codes ": failed " ++ quoted (failure_at logs f)

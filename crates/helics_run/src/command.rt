@@ -1,79 +1,36 @@
-ghost use Rattle.std.specs.Prelude.{◌≡◌, ◌≢◌, ◌<◌, ◌⊎◌, ℕ, Bool, true, false, List, [], Ok, Err, IfOk, Result, string_bytes};
-ghost use Rattle.machine_laws.specs.declared.logs.FedLog.{FedLog};
+ghost use Rattle.std.specs.Prelude.{◌≡◌, ◌≢◌, ◌<◌, ◌⊎◌, ℕ, List, []};
+ghost use Rattle.federation_plan.specs.Plan.{Federation};
 ghost use Rattle.hel_outside.specs.Faults.{Rose, Gains, GainsPart};
-ghost use Rattle.one_place.specs.Text.{logs_text};
-ghost use Rattle.helics_run.specs.declared.failure.Refusal.{Refusal};
-ghost use Rattle.helics_run.specs.Words.{texts, IsSim};
-ghost use Rattle.helics_run.specs.Reading.{Setting as Scene};
-ghost use Rattle.helics_run.specs.Lines.{error_line, bad_words, cannot_read, cannot_write, stuck, out_of_memory, refused};
-ghost use Rattle.helics_run.specs.Command.{ReadsBy, AsksBy, TellsBy, HasLogs, is_live_end, ends_live, IsRunText, IsLater, Stands, StandsBy};
-ghost use Rattle.helics_run.specs.Following.{CountsFaults};
-ghost use Rattle.helics_run.specs.Answers.{Answers, Tells};
+ghost use Rattle.scenario_reading.specs.declared.refusal.Refusal.{Refusal};
+ghost use Rattle.helics_run.specs.declared.printing.Printed.{Printed as Printing};
+ghost use Rattle.helics_run.specs.Lines.{error_line, bad_words, cannot_read, cannot_write, out_of_memory, refused};
+ghost use Rattle.helics_run.specs.Command.{texts, AskFor, Prints, Refuses, AsksAt, IsPlanAt, NoneWait, TellsAll, IsPrinting, IsLater, Stands};
+ghost use Rattle.helics_run.specs.Answers.{Answers, CountsFaults, Tells};
 
-use crate::failure::{Failure, cannot_read_line};
-use crate::log_text::log_text;
-use crate::reading::{Setting, read_setting};
+use crate::failure::Failure;
+use crate::line::{BAD_WORDS, CANNOT_WRITE, OUT_OF_MEMORY, cannot_read_line, refused_line};
+use crate::printing::{Printed, check, sim};
 use crate::status::Status;
-use crate::words::sim_file;
-use hel_lists::{Copied, OutOfMemory};
+use command_words::{Verb, read_words};
+use hel_lists::OutOfMemory;
 use hel_outside::{Files, Sink, write_all};
-use one_place::{FedLog, LogEnd, Plan, Scenario, reference};
 use std::alloc::Global;
 
-const BAD_WORDS: &str =
-    "helics_run: bad words; use check FILE, sim FILE [--seed N] [--trace], load N, local FILE, run FILE, or fed FILE --link=ADDR/K\n";
-
-const CANNOT_WRITE: &str = "helics_run: cannot write\n";
-
-const STUCK: &str = "helics_run: stuck\n";
-
-const OUT_OF_MEMORY: &str = "helics_run: out of memory\n";
-
-// What a run printed.
-#[derive(Drop)]
-struct Run {
-    // Of its logs.
-    text: String,
-    // Whether a federate is live at its end.
-    is_live: bool,
-}
-
-// Whether a federate is live at the end of these logs.
-fn ends_live(logs: &[FedLog]) -> bool
-    ensures { result ≡ ends_live logs.now }
-{
-    logs.iter().any(|log| matches!(log.end, LogEnd::Open(_)))
-}
-
-// The reference run of what was set up.
-fn run_of(alloc: Global, setting: Setting) -> Result<Run, OutOfMemory>
-    ensures { IfOk result (λ run. (logs : List FedLog) × (HasLogs setting logs
-        × (run.is_live ≡ ends_live logs) × (string_bytes run.text ≡ logs_text setting.federates logs))) }
-{
-    let Setting { federates, scripts } = setting;
-    let named = federates.copy(alloc)?;
-    let plan = Plan::build(alloc, federates)?;
-    let logs = reference(alloc, Scenario { plan, scripts })?;
-    let text = log_text(alloc, named.as_slice(), &logs)?;
-    let is_live = ends_live(logs.feds.as_slice());
-    Ok(Run { text, is_live })
-}
-
-// The run that these words ask for.
-fn answer<F: Files>(alloc: Global, words: &[String], files: &mut F) -> Result<Run, Failure>
+// What the words ask for.
+fn answer<F: Files>(alloc: Global, words: &[String], files: &mut F) -> Result<Printed, Failure>
     ensures answers { Answers (F.content files.old) (texts words.now) result }
-    ensures same { (path : List ℕ) → F.content files.new path ≡ F.content files.old path }
     ensures faults { CountsFaults result (F.faults files.old) (F.faults files.new) (F.failed_path files.new) }
+    ensures same { (path : List ℕ) → F.content files.new path ≡ F.content files.old path }
 {
-    let Some(file) = sim_file(words) else {
-        return Err(Failure::BadWords);
-    };
-    let setting = read_setting(alloc, files, file)?;
-    Ok(run_of(alloc, setting)?)
+    let asked = read_words(alloc, words)?;
+    match asked.verb {
+        Verb::Check => check(alloc, files, asked.file.as_str()),
+        Verb::Sim => sim(alloc, files, asked.file.as_str()),
+    }
 }
 
-// Writes a line, and ends with the status where that doesn't fail.
-fn tell<E: Sink>(err: &mut E, status: Status, line: &str) -> Status
+/// Writes a line, and ends with the status where that doesn't fail.
+pub fn tell<E: Sink>(err: &mut E, status: Status, line: &str) -> Status
     ensures { Tells status line.now result (E.written err.old) (E.written err.new) (E.faults err.old) (E.faults err.new) }
 {
     match write_all(err, line.as_bytes()) {
@@ -90,38 +47,36 @@ pub fn command<F: Files, O: Sink, E: Sink>(
     out: &mut O,
     err: &mut E,
 ) -> Status
-    // 0: the text of the logs of the run of what was read, which ends with no live federate, and nothing on `err`.
-    ensures done { result ≡ Status.Done → ((text : List ℕ)
-        × (IsRunText (F.content files.old) (texts words.now.items) false text × Gains (O.written out.old) (O.written out.new) text))
-        × Gains (E.written err.old) (E.written err.new) [] }
+    // 0, 1 and 8: what the words ask for was printed. With 0 it is the plan of what was read, or the logs of a run in
+    // which no federate failed and which ends with no live federate; with 1 those of a run up to its first failure, which
+    // `err` tells; with 8 those of a run that ends with a live federate.
+    ensures printed { IsPrinting result → (p : Printing) × Prints (F.content files.old) (texts words.now.items) p × (p.status ≡ result)
+        × Gains (O.written out.old) (O.written out.new) p.out × Gains (E.written err.old) (E.written err.new) p.err }
 
-    // 8: the same of a run that ends with a live federate, which `err` tells.
-    ensures stuck { result ≡ Status.Stuck → ((text : List ℕ)
-        × (IsRunText (F.content files.old) (texts words.now.items) true text × Gains (O.written out.old) (O.written out.new) text))
-        × Gains (E.written err.old) (E.written err.new) (error_line stuck) }
+    // With 8 two federates of the plan that wait for current updates are each other's ancestors.
+    ensures waits { result ≡ Status.Stuck → (plan : Federation) × (IsPlanAt (F.content files.old) (texts words.now.items) plan × ¬ NoneWait plan) }
 
-    // 2: exactly where the words aren't `sim` and a file.
-    ensures bad_words { result ≡ Status.BadWords → ¬ IsSim (texts words.now.items)
+    // 2: exactly where the words ask for nothing.
+    ensures bad_words { result ≡ Status.BadWords → ¬ AskFor (texts words.now.items)
         × Gains (E.written err.old) (E.written err.new) (error_line bad_words) }
-    ensures words { ¬ IsSim (texts words.now.items) → Stands Status.BadWords result }
+    ensures words { ¬ AskFor (texts words.now.items) → Stands Status.BadWords result }
 
     // 3: only where the files failed, at a path that is asked for; and that failure stands.
     ensures file_fault { result ≡ Status.FileFault → Rose (F.faults files.old) (F.faults files.new)
-        × AsksBy (F.content files.old) (texts words.now.items) (F.failed_path files.new)
+        × AsksAt (F.content files.old) (texts words.now.items) (F.failed_path files.new)
         × Gains (E.written err.old) (E.written err.new) (error_line (cannot_read (F.failed_path files.new))) }
     ensures failed_files { F.faults files.old < F.faults files.new → Stands Status.FileFault result }
 
     // 4: the first refusal of what was read, by name.
     ensures refused { result ≡ Status.Refused → (r : Refusal)
-        × ReadsBy (F.content files.old) (texts words.now.items) (Err r)
+        × Refuses (F.content files.old) (texts words.now.items) r
         × Gains (E.written err.old) (E.written err.new) (error_line (refused r)) }
 
-    // 0, 4 and 8, exactly: what the files tell decides.
-    ensures told { IsSim (texts words.now.items)
-        → TellsBy (F.content files.old) (texts words.now.items)
-        → (end : Result Scene Refusal)
-        → ReadsBy (F.content files.old) (texts words.now.items) end
-        → result ≡ Status.FileFault ⊎ StandsBy end result }
+    // 0, 1, 4 and 8, exactly: what the files tell decides.
+    ensures decided { TellsAll (F.content files.old) (texts words.now.items) → (p : Printing)
+        → Prints (F.content files.old) (texts words.now.items) p → (result ≡ Status.FileFault) ⊎ Stands p.status result }
+    ensures refuses { TellsAll (F.content files.old) (texts words.now.items) → (r : Refusal)
+        → Refuses (F.content files.old) (texts words.now.items) r → (result ≡ Status.FileFault) ⊎ Stands Status.Refused result }
 
     // 5: only where `out` or `err` failed, and before every other status.
     ensures sink_fault { result ≡ Status.SinkFault →
@@ -135,41 +90,48 @@ pub fn command<F: Files, O: Sink, E: Sink>(
     ensures out_of_memory { result ≡ Status.OutOfMemory
         → Gains (E.written err.old) (E.written err.new) (error_line out_of_memory) }
 
-    // Nothing is written to `out` but logs, and what the files hold stays.
-    ensures no_logs { result ≢ Status.Done → result ≢ Status.Stuck → result ≢ Status.SinkFault
-        → Gains (O.written out.old) (O.written out.new) [] }
-    ensures part_of_logs { result ≡ Status.SinkFault → Gains (O.written out.old) (O.written out.new) []
-        ⊎ ((live : Bool) × ((text : List ℕ) × (IsRunText (F.content files.old) (texts words.now.items) live text
-        × (GainsPart (O.written out.old) (O.written out.new) text ⊎ ((live ≡ true) × Gains (O.written out.old) (O.written out.new) text))))) }
+    // Nothing else is written to `out`, and what the files hold stays.
+    ensures no_out { ¬ IsPrinting result → result ≢ Status.SinkFault → Gains (O.written out.old) (O.written out.new) [] }
+    ensures part_of_out { result ≡ Status.SinkFault → Gains (O.written out.old) (O.written out.new) []
+        ⊎ ((p : Printing) × (Prints (F.content files.old) (texts words.now.items) p
+        × (GainsPart (O.written out.old) (O.written out.new) p.out
+        ⊎ (Gains (O.written out.old) (O.written out.new) p.out × Rose (E.faults err.old) (E.faults err.new))))) }
     ensures same_files { (path : List ℕ) → F.content files.new path ≡ F.content files.old path }
 
     // The others don't come.
     ensures later { ¬ IsLater result }
 
-    // Right words, files and sinks that don't fail and a setting that isn't refused are run.
-    ensures complete { IsSim (texts words.now.items)
+    // What right words ask for is printed where nothing fails or is refused, unless memory is wanting.
+    ensures complete { AskFor (texts words.now.items)
         → ¬ Rose (F.faults files.old) (F.faults files.new)
-        → ((r : Refusal) → ¬ ReadsBy (F.content files.old) (texts words.now.items) (Err r))
+        → ((r : Refusal) → ¬ Refuses (F.content files.old) (texts words.now.items) r)
         → ¬ Rose (O.faults out.old) (O.faults out.new)
         → ¬ Rose (E.faults err.old) (E.faults err.new)
-        → (result ≡ Status.Done) ⊎ (result ≡ Status.Stuck) ⊎ (result ≡ Status.OutOfMemory) }
+        → IsPrinting result ⊎ (result ≡ Status.OutOfMemory) }
+
+    // And where no federate of the run fails and no two wait for each other, it is done.
+    ensures whole { AskFor (texts words.now.items)
+        → ¬ Rose (F.faults files.old) (F.faults files.new)
+        → ((r : Refusal) → ¬ Refuses (F.content files.old) (texts words.now.items) r)
+        → ¬ Rose (O.faults out.old) (O.faults out.new)
+        → ¬ Rose (E.faults err.old) (E.faults err.new)
+        → ((p : Printing) → Prints (F.content files.old) (texts words.now.items) p → p.status ≢ Status.Halted)
+        → ((plan : Federation) → IsPlanAt (F.content files.old) (texts words.now.items) plan → NoneWait plan)
+        → (result ≡ Status.Done) ⊎ (result ≡ Status.OutOfMemory) }
 {
     match answer(alloc, words, files) {
-        Ok(run) => {
-            if write_all(out, run.text.as_bytes()).is_err() {
+        Ok(printed) => {
+            if write_all(out, printed.out.as_str().as_bytes()).is_err() {
                 return tell(err, Status::SinkFault, CANNOT_WRITE);
             }
-            if run.is_live {
-                return tell(err, Status::Stuck, STUCK);
-            }
-            Status::Done
+            tell(err, printed.status, printed.err.as_str())
         }
         Err(Failure::BadWords) => tell(err, Status::BadWords, BAD_WORDS),
         Err(Failure::FileFault(path)) => match cannot_read_line(alloc, path.as_str()) {
             Ok(line) => tell(err, Status::FileFault, line.as_str()),
             Err(OutOfMemory) => tell(err, Status::OutOfMemory, OUT_OF_MEMORY),
         },
-        Err(Failure::Refused(refusal)) => match refusal.line(alloc) {
+        Err(Failure::Refused(refusal)) => match refused_line(alloc, &refusal) {
             Ok(line) => tell(err, Status::Refused, line.as_str()),
             Err(OutOfMemory) => tell(err, Status::OutOfMemory, OUT_OF_MEMORY),
         },

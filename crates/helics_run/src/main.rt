@@ -3,41 +3,46 @@
 
 mod command;
 mod failure;
-mod federate_file;
-mod json_value;
-mod log_text;
-mod names;
-mod participant;
-mod paths;
-mod reading;
-mod runner_file;
+mod line;
+mod printing;
 mod status;
-mod words;
 
+use crate::command::{command, tell};
+use crate::line::OUT_OF_MEMORY;
+use crate::status::Status;
+use hel_lists::OutOfMemory;
 use hel_outside::{RealFiles, StdSink};
 use std::alloc::Global;
 use std::env;
+use std::io::ErrorKind;
 use std::process::ExitCode;
 use std::rt::Env;
 
-// The words behind the program's own name, and none where they can't be had as text.
-fn words_of(rt: &(impl Env + Alloc<A = Global>)) -> Vec<String> {
+// The words behind the program's own name, and none where one of them isn't text.
+fn words_of(rt: &(impl Env + Alloc<A = Global>)) -> Result<Vec<String>, OutOfMemory> {
     let mut words = Vec::new(rt.alloc());
-    if let Ok(all) = env::args(rt) {
-        for word in all.skip(1) {
-            if words.push(word).is_err() {
-                return Vec::new(rt.alloc());
+    match env::args(rt) {
+        Ok(all) => {
+            for word in all.skip(1) {
+                words.push(word)?;
+            }
+        }
+        Err(e) => {
+            if e.kind() == ErrorKind::OutOfMemory {
+                return Err(OutOfMemory);
             }
         }
     }
-    words
+    Ok(words)
 }
 
 fn main(rt: HostRuntime) -> ExitCode {
-    let words = words_of(&rt);
     let mut files = RealFiles::new(rt.alloc(), &rt);
     let mut out = StdSink::new(rt.stdout());
     let mut err = StdSink::new(rt.stderr());
-    let status = command::command(rt.alloc(), &words, &mut files, &mut out, &mut err);
+    let status = match words_of(&rt) {
+        Ok(words) => command(rt.alloc(), &words, &mut files, &mut out, &mut err),
+        Err(OutOfMemory) => tell(&mut err, Status::OutOfMemory, OUT_OF_MEMORY),
+    };
     ExitCode::from(status.number())
 }

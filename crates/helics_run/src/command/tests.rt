@@ -1,7 +1,10 @@
+mod ends;
 mod faults;
-mod forms;
-mod limits;
+mod messages;
+mod plans;
+mod refusals;
 mod runs;
+mod settings;
 
 use super::command;
 use crate::status::Status;
@@ -109,42 +112,16 @@ fn other_words(rt: HostRuntime) -> Result<(), Fail> {
         "",
         "simulate run.json",
         "sim",
-        "sim -x",
         "sim a b",
+        "sim a --seed 7",
+        "check a --trace",
         "load 7",
-        "check F",
         "local F",
         "run F",
         "fed F --link=a/0",
     ];
     for words in table {
         Call::new(words, &[]).expect(&rt, rt.alloc(), Status::BadWords, "", BAD_WORDS)?;
-    }
-    Ok(())
-}
-
-// A federate file that isn't held shows its path.
-#[test]
-fn paths(rt: HostRuntime) -> Result<(), Fail> {
-    let table = [
-        ("run.json", "a.json", "a.json"),
-        ("run.json", "./a.json", "./a.json"),
-        ("./run.json", "a.json", "a.json"),
-        ("d/run.json", "a.json", "d/a.json"),
-        ("d/e/run.json", "f/a.json", "d/e/f/a.json"),
-        ("d/run.json", "/a.json", "/a.json"),
-        ("d/run.json", ".", "d"),
-        ("/run.json", "a.json", "/a.json"),
-    ];
-    let alloc = rt.alloc();
-    for (file, config, path) in table {
-        let words = format!(in alloc; "sim {file}")?;
-        let runner = format!(in alloc;
-            "{{\"federates\":[{{\"name\":\"A\",\"exec\":\"$self fed {config}\"}}]}}"
-        )?;
-        let files = [(file, runner.as_bytes())];
-        let err = format!(in alloc; "helics_run: cannot read {path}\n")?;
-        Call::new(words.as_str(), &files).expect(&rt, alloc, Status::FileFault, "", err.as_str())?;
     }
     Ok(())
 }

@@ -1,25 +1,55 @@
-use Rattle.std.proofs.Common.{◌∙◌, sym, inl, inr, refl, string_bytes}
-use Rattle.helics_run.proofs.Told.{run_made, told_run, told_refused, told_stands, by_live, by_ended, where_ok}
+use Rattle.std.proofs.Common.{◌∙◌, sym, inl, inr, refl, subst, List, ℕ}
+use Rattle.hel_outside.specs.Faults.{Gains}
+use Rattle.helics_run.proofs.Once.{print_made, refusal_made, decided_by, not_both, told_stands, where_ok}
+use Rattle.helics_run.proofs.Stuck.{stuck_prints, whole_prints, sink_prints, sink_not_stuck}
 use Rattle.helics_run.proofs.command.command.Goals as goal
 
--- what the files tell has the end that was read
-pub returns-in-Ok-clause-told : goal.returns-in-Ok-clause-told
-returns-in-Ok-clause-told g c = λ sim tells end reads.
-    inr (told_run _ c.args.words.now.items _ c.in-Ok.run' _ end c.deref.ensures.value c.in-Ok.ensures.answers tells reads
-    (λ logs is. inl (by_ended logs _ is c.if-run.false)))
+-- what the files tell decides
+pub returns-in-Ok-clause-decided : goal.returns-in-Ok-clause-decided
+returns-in-Ok-clause-decided g c = λ tells q prints.
+    inr (decided_by _ _ c.in-Ok.printed q _ tells (print_made _ c.args.words.now.items _ c.in-Ok.printed c.deref.ensures.value c.in-Ok.ensures.answers) prints
+    (told_stands _ _ _ _ _ _ _ _ c.tell-in-Ok.ensures refl))
 
-pub returns-then-run-clause-told : goal.returns-then-run-clause-told
-returns-then-run-clause-told g c = λ sim tells end reads.
-    inr (told_run _ c.args.words.now.items _ c.in-Ok.run' _ end c.deref.ensures.value c.in-Ok.ensures.answers tells reads
-    (λ logs is. told_stands _ _ _ _ _ _ _ _ c.tell-then-run.ensures (by_live logs _ is c.if-run.true)))
+pub returns-in-Ok-clause-refuses : goal.returns-in-Ok-clause-refuses
+returns-in-Ok-clause-refuses g c = λ tells r refuses.
+    absurd (not_both _ _ c.in-Ok.printed r tells (print_made _ c.args.words.now.items _ c.in-Ok.printed c.deref.ensures.value c.in-Ok.ensures.answers) refuses)
+
+-- what is stuck has two that wait for each other
+pub returns-in-Ok-clause-waits : goal.returns-in-Ok-clause-waits
+returns-in-Ok-clause-waits g c = λ stuck.
+    let made = print_made _ c.args.words.now.items _ c.in-Ok.printed c.deref.ensures.value c.in-Ok.ensures.answers in
+    elim c.tell-in-Ok.ensures [
+      | inl written ↦ stuck_prints _ _ c.in-Ok.printed made (sym written.0 ∙ stuck)
+      | inr failed ↦ absurd (sink_not_stuck (sym failed.0 ∙ stuck))
+    ]
+
+pub returns-in-Ok-clause-whole : goal.returns-in-Ok-clause-whole
+returns-in-Ok-clause-whole g c = λ asks quiet none quiet_out quiet_err lives no_pair.
+    let made = print_made _ c.args.words.now.items _ c.in-Ok.printed c.deref.ensures.value c.in-Ok.ensures.answers in
+    elim c.tell-in-Ok.ensures [
+      | inl written ↦ inl (written.0 ∙ whole_prints _ _ c.in-Ok.printed made (lives c.in-Ok.printed made) no_pair)
+      | inr failed ↦ absurd (quiet_err failed.1)
+    ]
+
+pub returns-in-Ok-refused_line-clause-whole : goal.returns-in-Ok-refused_line-clause-whole
+returns-in-Ok-refused_line-clause-whole g c = λ asks quiet none quiet_out quiet_err lives no_pair.
+    absurd (none c.in-Err-Refused.refusal (refusal_made _ c.args.words.now.items _ _ c.in-Err-Refused.refusal c.deref.ensures.value c.in-Err-Refused.field-0-is c.in-Err-Refused.ensures.answers))
 
 -- all was written, and then the line wasn't
-pub returns-then-run-clause-part_of_logs : goal.returns-then-run-clause-part_of_logs
-returns-then-run-clause-part_of_logs g c = λ fault.
+pub returns-in-Ok-clause-part_of_out : goal.returns-in-Ok-clause-part_of_out
+returns-in-Ok-clause-part_of_out g c = λ fault.
     let written = where_ok _ _ (sym c.is_err.ensures.value ∙ c.if-is_err.false) c.write_all.ensures.ok in
-    inr (c.in-Ok.run'.is_live, (string_bytes c.in-Ok.run'.text, (run_made _ c.args.words.now.items _ c.in-Ok.run' c.deref.ensures.value c.in-Ok.ensures.answers, inr (c.if-run.true, rw c.as_bytes.ensures.value at written))))
+    let made = print_made _ c.args.words.now.items _ c.in-Ok.printed c.deref.ensures.value c.in-Ok.ensures.answers in
+    let all = subst (λ (bytes : List ℕ). Gains (g.O.Sink.written c.args.out.now) (g.O.Sink.written c.write_all.new.sink) bytes) (c.as_bytes.ensures.value ∙ c.as_str.ensures) written in
+    elim c.tell-in-Ok.ensures [
+      | inl told ↦ absurd (sink_prints _ _ c.in-Ok.printed made (sym told.0 ∙ fault))
+      | inr failed ↦ inr (c.in-Ok.printed, (made, inr (all, failed.1)))
+    ]
 
-pub returns-in-Ok-line-clause-told : goal.returns-in-Ok-line-clause-told
-returns-in-Ok-line-clause-told g c = λ sim tells end reads.
-    inr (told_refused _ c.args.words.now.items _ _ c.in-Err-Refused.refusal _ end c.deref.ensures.value c.in-Err-Refused.field-0-is c.in-Err-Refused.ensures.answers tells reads
-    (told_stands _ _ _ _ _ _ _ _ c.tell-in-Ok-line.ensures refl))
+pub returns-in-Ok-refused_line-clause-decided : goal.returns-in-Ok-refused_line-clause-decided
+returns-in-Ok-refused_line-clause-decided g c = λ tells p prints.
+    absurd (not_both _ _ p c.in-Err-Refused.refusal tells prints (refusal_made _ c.args.words.now.items _ _ c.in-Err-Refused.refusal c.deref.ensures.value c.in-Err-Refused.field-0-is c.in-Err-Refused.ensures.answers))
+
+pub returns-in-Ok-refused_line-clause-complete : goal.returns-in-Ok-refused_line-clause-complete
+returns-in-Ok-refused_line-clause-complete g c = λ asks quiet none quiet_out quiet_err.
+    absurd (none c.in-Err-Refused.refusal (refusal_made _ c.args.words.now.items _ _ c.in-Err-Refused.refusal c.deref.ensures.value c.in-Err-Refused.field-0-is c.in-Err-Refused.ensures.answers))

@@ -2,36 +2,6 @@ use super::{ALONE, PAIR, THREE, expect_of};
 use crate::status::Status;
 use std::test::Fail;
 
-#[test]
-fn scripts_that_run(rt: HostRuntime) -> Result<(), Fail> {
-    let table = [
-        ("", ""),
-        (r#"{"do":"finish"},{"do":"request","time":"5ns"}"#, ""),
-        (
-            r#"{"do":"request","time":"010ns"}"#,
-            "grant 0.000000010 0 next\n",
-        ),
-        (
-            r#"{"do":"request","time":"0ns"},{"time":"0ns","do":"request"}"#,
-            "grant 0.000000001 0 next\ngrant 0.000000002 0 next\n",
-        ),
-        (
-            r#"{"do":"request","time":"2305843009213693952ns"}"#,
-            "grant 2305843009.213693952 0 next\n",
-        ),
-    ];
-    let alloc = rt.alloc();
-    for (script, grants) in table {
-        let federate = format!(in alloc; "{{\"name\":\"A\",\"script\":[{script}]}}")?;
-        let logs = format!(in alloc;
-            "federate 0 A\ngrant 0.000000000 1 next\n{grants}end finished\n"
-        )?;
-        let texts = [("run.json", ALONE), ("a.json", federate.as_str())];
-        expect_of(&rt, alloc, &texts, Status::Done, logs.as_str(), "")?;
-    }
-    Ok(())
-}
-
 const TWO: [(&str, &str); 3] = [
     ("run.json", PAIR),
     (
