@@ -1,5 +1,5 @@
 use crate::tests::shown;
-use fed_config::read_federate;
+use fed_config::{FederateConfig, read_federate};
 use fed_script::{Action, Script, View};
 use std::alloc::Global;
 use std::fmt::Write;
@@ -261,10 +261,13 @@ fn actions_of_scripts(rt: HostRuntime) -> Result<(), Fail> {
 // The actions of a file's script, up to its end.
 fn actions(alloc: Global, file: &str) -> Result<String, Fail> {
     match read_federate(alloc, file.as_bytes()) {
-        Ok(config) => match config.script {
-            Some(script) => script_actions(alloc, script),
-            None => Ok(String::from_str(alloc, "no script")?),
-        },
+        Ok(config) => {
+            let FederateConfig { script, .. } = config;
+            match script {
+                Some(script) => script_actions(alloc, script),
+                None => Ok(String::from_str(alloc, "no script")?),
+            }
+        }
         Err(refusal) => Ok(format!(in alloc; "{:?} {}", refusal.cause, refusal.path)?),
     }
 }
