@@ -1,10 +1,11 @@
 #!/usr/bin/env python3
 """Measures how a federate file is read whole, at three sizes up to the limit of a file.
 
-Run it at any place: `python3 bench/federate_files.py`. The program itself doesn't read such files whole yet, so this
-makes a program of a few lines that calls `fed_config::read_federate`, in a folder of its own beside copies of the
-crates below, and has `rt` prove and build it, which takes some minutes. It prints seconds of the processor (the least
-of several runs), peak memory and the exponents of growth, and ends with status 1 where one of them passes the limit.
+Run it at any place: `python3 bench/federate_files.py`. The program does more than read, and refuses a federate with so
+many inputs, so this makes a program of a few lines that calls `fed_config::read_federate`, in a folder of its own
+beside copies of the crates below, and has `rt` prove and build it, which takes some minutes. It prints seconds of the
+processor (the least of several runs), peak memory and the exponents of growth, and ends with status 1 where one of
+them passes the limit.
 A peak of some 15 MiB is that of the Python process before it became the program.
 """
 import json
