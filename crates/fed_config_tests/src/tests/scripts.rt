@@ -195,7 +195,7 @@ fn refused_actions(rt: HostRuntime) -> Result<(), Fail> {
 
 // Scripts that are read, with their actions: first those before the federate enters.
 const GIVEN: [(&str, &str); 14] = [
-    ("", "no script"),
+    (r#""n":1"#, "no script"),
     (
         r#""initial":[{"do":"publish","to":"x","value":1}]"#,
         "no script",
@@ -250,8 +250,7 @@ const GIVEN: [(&str, &str); 14] = [
 #[test]
 fn actions_of_scripts(rt: HostRuntime) -> Result<(), Fail> {
     for (rest, told) in GIVEN {
-        let comma = if rest.is_empty() { r#""n":1"# } else { rest };
-        let file = format!(in rt.alloc(); "{HEAD}{comma}}}")?;
+        let file = format!(in rt.alloc(); "{HEAD}{rest}}}")?;
         let answer = actions(rt.alloc(), file.as_str())?;
         assert_eq!(rt; answer.as_str(), told, "{rest}");
     }
