@@ -227,10 +227,13 @@ fn play(alloc: Global, machine: &mut Machine, f: u16, says: &[(u32, Say)]) -> Re
 
 // The machine once each federate has said its part to the end, the last federate first.
 fn played_by_steps(alloc: Global, rows: &[Row], parts: &[Part]) -> Result<Machine, Fail> {
-    let mut machine = Machine::open(alloc, plan_of(alloc, rows)?)?;
+    let plan = plan_of(alloc, rows)?;
+    let count = plan.count();
+    let mut machine = Machine::open(alloc, plan)?;
     machine.step(MachineStep::Begin)?;
-    for f in (0..parts.len()).rev() {
-        play(alloc, &mut machine, f as u16, parts[f].0)?;
+    for f in (0..count).rev() {
+        let part = parts.get(usize::from(f)).ok_or("a part for each")?;
+        play(alloc, &mut machine, f, part.0)?;
     }
     Ok(machine)
 }

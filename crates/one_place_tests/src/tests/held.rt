@@ -182,14 +182,20 @@ fn is_held(
     Ok(())
 }
 
+// The machine of a plan after these steps.
+fn machine_of(alloc: Global, rows: &[Row], steps: &[Do]) -> Result<Machine, Fail> {
+    let mut machine = Machine::open(alloc, plan_of(alloc, rows)?)?;
+    machine.step(MachineStep::Begin)?;
+    for step in steps {
+        machine.step(step_of(*step))?;
+    }
+    Ok(machine)
+}
+
 #[test]
 fn the_least_ancestor_holds_a_grant(rt: HostRuntime) -> Result<(), Fail> {
     for (rows, steps, f, holder, (time, micro)) in HELD {
-        let mut machine = Machine::open(rt.alloc(), plan_of(rt.alloc(), rows)?)?;
-        machine.step(MachineStep::Begin)?;
-        for step in steps {
-            machine.step(step_of(*step))?;
-        }
+        let mut machine = machine_of(rt.alloc(), rows, steps)?;
         let stamp = Stamp { time, micro };
         is_held(
             &rt,

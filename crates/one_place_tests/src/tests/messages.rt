@@ -80,13 +80,14 @@ fn filtered(alloc: Global, per_million: u32) -> Result<Plan, Fail>
 
 // The machine of a plan whose federates have their entry.
 fn entered(alloc: Global, plan: Plan) -> Result<Machine, Fail> {
+    let count = plan.count();
     let mut machine = Machine::open(alloc, plan)?;
     machine.step(MachineStep::Begin)?;
-    for f in 0..machine.count() {
-        machine.step(MachineStep::Enter(f as u16))?;
+    for f in 0..count {
+        machine.step(MachineStep::Enter(f))?;
     }
-    for f in 0..machine.count() {
-        machine.step(MachineStep::Grant(f as u16))?;
+    for f in 0..count {
+        machine.step(MachineStep::Grant(f))?;
     }
     Ok(machine)
 }
