@@ -59,9 +59,10 @@ fn federate(
 }
 
 // A, B and C, where a reroute, a delay and a drop stand on what A sends.
-fn filtered(alloc: Global, per_million: u32) -> Result<Plan, Fail>
-    requires { per_million ≤ 1000000 }
-{
+fn filtered(alloc: Global, per_million: u32) -> Result<Plan, Fail> {
+    if per_million > 1_000_000 {
+        return Err(Fail::from("chance"));
+    }
     let mut a = federate(alloc, "A", None)?;
     let reroute = FilterKind::Reroute(Text::from_str(alloc, "C/e")?);
     a.filters.push(filter(alloc, "A/e", reroute)?)?;
@@ -138,6 +139,19 @@ fn told(
     Ok(())
 }
 
+// The machine once A has sent to B at 10, and C is granted for the first time behind its entry.
+fn after_a_send(alloc: Global, per_million: u32) -> Result<Machine, Fail> {
+    let mut machine = entered(alloc, filtered(alloc, per_million)?)?;
+    machine.step(asked(0, 10))?;
+    machine.step(asked(1, 200))?;
+    machine.step(asked(2, 100))?;
+    machine.step(MachineStep::Grant(0))?;
+    machine.step(sent(alloc, 0, 0, "B/e")?)?;
+    machine.step(asked(0, 200))?;
+    machine.step(MachineStep::Grant(2))?;
+    Ok(machine)
+}
+
 #[test]
 fn a_message_passes_its_filters(rt: HostRuntime) -> Result<(), Fail> {
     // The chance in millionths, and whether the message comes.
@@ -147,14 +161,7 @@ fn a_message_passes_its_filters(rt: HostRuntime) -> Result<(), Fail> {
         (607_535, true),
         (607_536, false),
     ] {
-        let mut machine = entered(rt.alloc(), filtered(rt.alloc(), per_million)?)?;
-        machine.step(asked(0, 10))?;
-        machine.step(asked(1, 200))?;
-        machine.step(asked(2, 100))?;
-        machine.step(MachineStep::Grant(0))?;
-        machine.step(sent(rt.alloc(), 0, 0, "B/e")?)?;
-        machine.step(asked(0, 200))?;
-        machine.step(MachineStep::Grant(2))?;
+        let machine = after_a_send(rt.alloc(), per_million)?;
         let log = machine.logs().feds.get(2).ok_or("no log")?;
         let time = if kept { 14 } else { 100 };
         told(&rt, rt.alloc(), log.entries.as_slice().last(), time, kept)?;
