@@ -139,16 +139,24 @@ fn told(
     Ok(())
 }
 
+// The machine takes a step that it has to take.
+fn go(machine: &mut Machine, step: MachineStep) -> Result<(), Fail>
+    requires { KeepsTime (step_of step) }
+{
+    machine.step(step)?;
+    Ok(())
+}
+
 // The machine once A has sent to B at 10, and C is granted for the first time behind its entry.
 fn after_a_send(alloc: Global, per_million: u32) -> Result<Machine, Fail> {
     let mut machine = entered(alloc, filtered(alloc, per_million)?)?;
-    machine.step(asked(0, 10))?;
-    machine.step(asked(1, 200))?;
-    machine.step(asked(2, 100))?;
-    machine.step(MachineStep::Grant(0))?;
-    machine.step(sent(alloc, 0, 0, "B/e")?)?;
-    machine.step(asked(0, 200))?;
-    machine.step(MachineStep::Grant(2))?;
+    go(&mut machine, asked(0, 10))?;
+    go(&mut machine, asked(1, 200))?;
+    go(&mut machine, asked(2, 100))?;
+    go(&mut machine, MachineStep::Grant(0))?;
+    go(&mut machine, sent(alloc, 0, 0, "B/e")?)?;
+    go(&mut machine, asked(0, 200))?;
+    go(&mut machine, MachineStep::Grant(2))?;
     Ok(machine)
 }
 
@@ -231,8 +239,8 @@ fn nothing_is_sent_past_the_horizon(rt: HostRuntime) -> Result<(), Fail> {
     let mut registry = Registry::new(rt.alloc());
     enter(&mut registry, federate(rt.alloc(), "A", None)?)?;
     let mut machine = entered(rt.alloc(), plan_of_all(rt.alloc(), &registry)?)?;
-    machine.step(asked(0, MAX))?;
-    machine.step(MachineStep::Grant(0))?;
+    go(&mut machine, asked(0, MAX))?;
+    go(&mut machine, MachineStep::Grant(0))?;
     let calls = [
         (0, 1, "A/e", Some(CallRefusal::NotOwner)),
         (0, 0, "A/e", Some(CallRefusal::PastHorizon)),
