@@ -130,11 +130,7 @@ hop_is ps z t tree apart = elim (cases_Bool (over ps z t)) [
 
 -- the way back isn't a way there
 pub back : (ps : List ℕ) (x y : ℕ) → IsTree ps → Beside ps x y → side ps x y x ≡ false
-back ps x y tree beside = not-true' (sym (halves ps x y x tree beside) ∙ near ps y x tree (flip beside))
-  where
-    not-true' : {b : Bool} → not b ≡ true → b ≡ false
-    not-true' {b = true} h = sym h
-    not-true' {b = false} h = refl
+back ps x y tree beside = not-true (side ps x y x) (sym (halves ps x y x tree beside) ∙ near ps y x tree (flip beside))
 
 pub hop_only : (ps : List ℕ) (z t w : ℕ) → IsTree ps → Beside ps z w → side ps z w t ≡ true → w ≡ hop ps z t
 hop_only ps z t w tree beside h =
