@@ -7,7 +7,8 @@ use Rattle.serde_json.specs.Find.{as_str}
 use Rattle.interface_names.specs.declared.records.FilterKind.{FilterKind}
 use Rattle.interface_names.specs.declared.records.FilterKind.TheVariants.{Delay, Drop, Reroute}
 use Rattle.interface_names.specs.Filter.{FilterTerms, KeepsBounds}
-use Rattle.interface_names.specs.Limits.{longest_delay, million}
+use Rattle.helics_time.specs.Time.{longest_span}
+use Rattle.interface_names.specs.Limits.{million}
 use Rattle.json_reading.specs.Keys.{Member, member_at, object_of}
 use Rattle.json_reading.specs.Reading.{Read, ◌>>=◌, refused, below, here, under, members_of, optional_at, needed_at, optional_either_at, each_from}
 use Rattle.json_reading.specs.Leaves.{any_text, time_up_to, whole_between, texts_in}
@@ -83,7 +84,7 @@ needed_property name read properties = under properties.0 (property_in name read
 -- what a filter's operation asks of its properties
 abbrev pub kind_by : Operation → Member → Read FilterKind
 kind_by delays properties = do
-  delay ← needed_property (codes "delay") (time_up_to longest_delay) properties
+  delay ← needed_property (codes "delay") (time_up_to longest_span) properties
   Ok (Delay delay)
 kind_by drops properties = do
   per_million ← needed_property (codes "dropprob") (whole_between 0 million) properties

@@ -2,7 +2,8 @@
 ghost use Rattle.std.specs.Prelude.{◌≡◌, ◌^◌, ℕ, List, codes, option_map, unwrap_or, [], Option, Ok, IfOk};
 ghost use Rattle.serde_json.specs.View.{view, items_view};
 ghost use Rattle.interface_names.specs.Filter.{KeepsBounds};
-ghost use Rattle.interface_names.specs.Limits.{longest_delay, million};
+ghost use Rattle.helics_time.specs.Time.{longest_span};
+ghost use Rattle.interface_names.specs.Limits.{million};
 ghost use Rattle.json_reading.specs.Keys.{pairs_of};
 ghost use Rattle.json_reading.specs.Reading.{Gives, optional_at};
 ghost use Rattle.json_reading.specs.Leaves.{texts_in};

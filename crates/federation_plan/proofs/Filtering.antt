@@ -13,7 +13,8 @@ use Rattle.message_filters.specs.declared.chain.Filtered.{Filtered}
 use Rattle.message_filters.specs.declared.chain.Filtered.TheVariants.{Kept, Dropped}
 use Rattle.message_filters.specs.Filter.{reroute_of, drops}
 use Rattle.message_filters.specs.Chain.{filtered_of, last_of, kept_of, KeepsBounds}
-use Rattle.message_filters.specs.Limits.{longest_delay, most_filters}
+use Rattle.helics_time.specs.Time.{longest_span}
+use Rattle.message_filters.specs.Limits.{most_filters}
 use Rattle.federation_plan.specs.Interfaces.{Interface, naming, endpoint_of, filters, IsEndpoint}
 use Rattle.federation_plan.specs.Chains.{chain_on, filter_of, reroutes, source_chain, destination_chain, later_by, filtered_at, IsFiltered}
 use Rattle.federation_plan.specs.Refusal.{target_at, refusal_of}
@@ -68,7 +69,7 @@ unfolding refusal_of
 plan_accepted feds none = accepted feds (both_none _ _ none).1
 
 -- two chains together
-pub later_is : (feds : List FederateRecord) (delay : ℕ) (second : Filtered) → delay ≤ most_filters * longest_delay → KeepsBounds second →
+pub later_is : (feds : List FederateRecord) (delay : ℕ) (second : Filtered) → delay ≤ most_filters * longest_span → KeepsBounds second →
     Arrives (IsEndpoint feds) second → IsFiltered feds (later_by delay second)
 later_is feds delay (Kept end more) first second arrive = (arrive.end end more refl, omega (arith, first, second))
 later_is feds delay (Dropped place) first second arrive = second

@@ -21,7 +21,8 @@ use Rattle.message_filters.specs.declared.chain.Filtered.{Filtered}
 use Rattle.message_filters.specs.declared.chain.Filtered.TheVariants.{Kept, Dropped}
 use Rattle.message_filters.specs.Filter.{delay_of, reroute_of, drops}
 use Rattle.message_filters.specs.Chain.{last_of, kept_of, filtered_of}
-use Rattle.message_filters.specs.Limits.{longest_delay, most_filters}
+use Rattle.helics_time.specs.Time.{longest_span}
+use Rattle.message_filters.specs.Limits.{most_filters}
 use Rattle.federation_plan.specs.Interfaces.{Interface, same_ref, name_ref, name_fed, naming, refs_naming, endpoint_of, publication_of, inputs, filters, endpoints, federate_at, blank_federate, blank_filter, blank_endpoint, endpoint_at, IsEndpoint, IsInput, IsPublication}
 use Rattle.federation_plan.specs.Chains.{sources, destinations, filter_of, chain_on, source_chain, destination_chain, later_by, filtered_at, may_send, reroutes}
 use Rattle.federation_plan.specs.Depends.{last_end, reaches_by, reaches, by_value, by_message, depends}
@@ -66,39 +67,39 @@ filter_kept feds i kept among =
 
 -- ---- chains
 
-filter_short : (meaning : List ℕ → Option EndRef) (kind : FilterKind) (names : List (List ℕ)) → KeepsBounds kind names → delay_of (filter_of meaning kind) ≤ longest_delay
+filter_short : (meaning : List ℕ → Option EndRef) (kind : FilterKind) (names : List (List ℕ)) → KeepsBounds kind names → delay_of (filter_of meaning kind) ≤ longest_span
 filter_short meaning (Delay delay) names keeps = keeps
 filter_short meaning (Drop per_million seed) names keeps = omega arith
 filter_short meaning (Reroute name) names keeps = omega arith
 
-sum_short : (xs : List Filter) (first : ℕ) → Each (λ x. delay_of x ≤ longest_delay) xs → fold (λ a x. a + delay_of x) first xs ≤ first + length xs * longest_delay
+sum_short : (xs : List Filter) (first : ℕ) → Each (λ x. delay_of x ≤ longest_span) xs → fold (λ a x. a + delay_of x) first xs ≤ first + length xs * longest_span
 sum_short [] first each = omega arith
 sum_short (x ∷ xs) first each =
-    let own : delay_of x ≤ longest_delay = each x (inl refl) in
-    let rest : fold (λ a x. a + delay_of x) (first + delay_of x) xs ≤ first + delay_of x + length xs * longest_delay = sum_short xs (first + delay_of x) (λ y among. each y (inr among)) in
+    let own : delay_of x ≤ longest_span = each x (inl refl) in
+    let rest : fold (λ a x. a + delay_of x) (first + delay_of x) xs ≤ first + delay_of x + length xs * longest_span = sum_short xs (first + delay_of x) (λ y among. each y (inr among)) in
     omega (arith, own, rest)
 
 -- a chain delays by no more than its filters may
 chain_short : (feds : List FederateRecord) (side : FilterTerms → List (List ℕ)) (e : EndRef) → Each IsKept feds → length (refs_naming (endpoint_of feds) side (filters feds) e) ≤ most_filters →
-    sum_by delay_of (chain_on side feds e) ≤ most_filters * longest_delay
+    sum_by delay_of (chain_on side feds e) ≤ most_filters * longest_span
 chain_short feds side e kept few =
     let all = naming (endpoint_of feds) side (filters feds) e in
     let long : length (chain_on side feds e) ≡ length all = length-map all (λ (i : Interface FilterTerms). filter_of (endpoint_of feds) i.item.kind) in
     let refs : length (refs_naming (endpoint_of feds) side (filters feds) e) ≡ length all = length-map all (λ (i : Interface FilterTerms). i.ref) in
-    let sum : sum_by delay_of (chain_on side feds e) ≤ 0 + length (chain_on side feds e) * longest_delay = sum_short (chain_on side feds e) 0 each in
+    let sum : sum_by delay_of (chain_on side feds e) ≤ 0 + length (chain_on side feds e) * longest_span = sum_short (chain_on side feds e) 0 each in
     omega (arith, long, refs, few, sum)
   where
-    each : Each (λ x. delay_of x ≤ longest_delay) (chain_on side feds e)
+    each : Each (λ x. delay_of x ≤ longest_span) (chain_on side feds e)
     each x among =
         let one = in_map (λ (i : Interface FilterTerms). filter_of (endpoint_of feds) i.item.kind) (naming (endpoint_of feds) side (filters feds) e) x among in
         let within = in_filter (λ (i : Interface FilterTerms). name_ref (endpoint_of feds) (side i.item) e) (filters feds) one.0 one.1 in
-        subst (λ (y : Filter). delay_of y ≤ longest_delay) (sym one.2) (filter_short (endpoint_of feds) one.0.item.kind one.0.item.destination_of (filter_kept feds one.0 kept within.0))
+        subst (λ (y : Filter). delay_of y ≤ longest_span) (sym one.2) (filter_short (endpoint_of feds) one.0.item.kind one.0.item.destination_of (filter_kept feds one.0 kept within.0))
 
-pub source_short : (feds : List FederateRecord) (e : EndRef) → IsAccepted feds → Each IsKept feds → IsEndpoint feds e → sum_by delay_of (source_chain feds e) ≤ most_filters * longest_delay
+pub source_short : (feds : List FederateRecord) (e : EndRef) → IsAccepted feds → Each IsKept feds → IsEndpoint feds e → sum_by delay_of (source_chain feds e) ≤ most_filters * longest_span
 unfolding source_chain
 source_short feds e accepted kept within = chain_short feds sources e kept (short feds e accepted within).0
 
-pub destination_short : (feds : List FederateRecord) (e : EndRef) → IsAccepted feds → Each IsKept feds → IsEndpoint feds e → sum_by delay_of (destination_chain feds e) ≤ most_filters * longest_delay
+pub destination_short : (feds : List FederateRecord) (e : EndRef) → IsAccepted feds → Each IsKept feds → IsEndpoint feds e → sum_by delay_of (destination_chain feds e) ≤ most_filters * longest_span
 unfolding destination_chain
 destination_short feds e accepted kept within = chain_short feds destinations e kept (short feds e accepted within).1
 

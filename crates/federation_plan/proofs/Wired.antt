@@ -13,7 +13,8 @@ use Rattle.interface_names.specs.declared.records.EndRecord.{EndRecord}
 use Rattle.interface_names.specs.declared.records.FederateRecord.{FederateRecord}
 use Rattle.message_filters.specs.declared.chain.Filtered.{Filtered}
 use Rattle.message_filters.specs.declared.chain.Filtered.TheVariants.{Kept, Dropped}
-use Rattle.message_filters.specs.Limits.{longest_delay, most_filters}
+use Rattle.helics_time.specs.Time.{longest_span}
+use Rattle.message_filters.specs.Limits.{most_filters}
 use Rattle.dependency_paths.specs.Paths.{row_of, Leads}
 use Rattle.dependency_paths.specs.Paths.Leads.{by_link, by_way_of}
 use Rattle.dependency_paths.proofs.Ancestry.{ancestor_laws}
@@ -55,7 +56,7 @@ among_ancestors p a f is linked = elim (cases_eq f a) [
 record IsSent (p : Federation) (a : ℕ) (leg : Leg) : Type 0 where
   pub is : IsLeg p.federates a leg
   pub link : depends p.federates a leg.target ≡ true
-  pub most : leg.delay ≤ delay_between p.federates a leg.target + 2 * (most_filters * longest_delay)
+  pub most : leg.delay ≤ delay_between p.federates a leg.target + 2 * (most_filters * longest_span)
 
 value_leg : (p : Federation) (publication input : EndRef) (value : Value) → IsIn input (targets_of p.federates publication) → IsSent p publication.fed (leg_to p.federates publication value input)
 value_leg p publication input value among = record {

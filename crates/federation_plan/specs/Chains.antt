@@ -13,7 +13,8 @@ use Rattle.message_filters.specs.declared.chain.Filtered.{Filtered}
 use Rattle.message_filters.specs.declared.chain.Filtered.TheVariants.{Kept, Dropped}
 use Rattle.message_filters.specs.Filter.{reroute_of}
 use Rattle.message_filters.specs.Chain.{filtered_of, last_of}
-use Rattle.message_filters.specs.Limits.{longest_delay, most_filters}
+use Rattle.helics_time.specs.Time.{longest_span}
+use Rattle.message_filters.specs.Limits.{most_filters}
 use Rattle.federation_plan.specs.Interfaces.{Interface, IsEndpoint, name_ref, naming, endpoint_of, endpoint_at, filters}
 
 -- the two sides on which a filter may stand
@@ -54,7 +55,7 @@ filtered_at feds from sequence dest = at_end (filtered_of (source_chain feds fro
 
 -- a message is kept for an endpoint, later by no more than two chains delay, or dropped at a place of a chain
 abbrev pub IsFiltered : List FederateRecord → Filtered → Type 0
-IsFiltered feds (Kept end delay) = IsEndpoint feds end × (delay ≤ 2 * (most_filters * longest_delay))
+IsFiltered feds (Kept end delay) = IsEndpoint feds end × (delay ≤ 2 * (most_filters * longest_span))
 IsFiltered feds (Dropped place) = place < most_filters
 
 -- an endpoint that isn't targeted may send to every endpoint, a targeted one to its destination targets and to those

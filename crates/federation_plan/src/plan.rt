@@ -5,7 +5,8 @@ ghost use Rattle.interface_names.specs.declared.records.FederateRecord.{Federate
 ghost use Rattle.interface_names.specs.Limits.{most_federates};
 ghost use Rattle.dependency_paths.specs.Paths.{row_of};
 ghost use Rattle.message_filters.specs.Chain.{KeepsBounds as KeepsLimits};
-ghost use Rattle.message_filters.specs.Limits.{longest_delay, most_filters};
+ghost use Rattle.helics_time.specs.Time.{longest_span};
+ghost use Rattle.message_filters.specs.Limits.{most_filters};
 ghost use Rattle.federation_plan.specs.Interfaces.{IsPublication, IsEndpoint, federate_at, endpoint_of, endpoint_at, name_ref};
 ghost use Rattle.federation_plan.specs.Chains.{may_send, filtered_at, later_by, IsFiltered, source_chain, destination_chain};
 ghost use Rattle.federation_plan.specs.Refusal.{named_refusal, none_at_all, refusal_of};
@@ -235,7 +236,7 @@ fn is_meant(endpoints: &Names, names: &[Text], at: EndRef) -> bool
 
 // What the second chain made of a message to which the first one added a delay.
 fn put_off(delay: u64, second: Filtered) -> Filtered
-    requires delay { delay ≤ most_filters * longest_delay }
+    requires delay { delay ≤ most_filters * longest_span }
     requires second { KeepsLimits second }
     ensures { result ≡ later_by delay second }
 {

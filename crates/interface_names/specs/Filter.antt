@@ -2,7 +2,8 @@
 use Rattle.std.specs.Prelude.{◌≡◌, ℕ, ◌≤◌, List, [], Option}
 use Rattle.interface_names.specs.declared.records.FilterKind.{FilterKind}
 use Rattle.interface_names.specs.declared.records.FilterKind.TheVariants.{Delay, Drop, Reroute}
-use Rattle.interface_names.specs.Limits.{longest_delay, million}
+use Rattle.helics_time.specs.Time.{longest_span}
+use Rattle.interface_names.specs.Limits.{million}
 
 pub record FilterTerms : Type 0 where
   pub name : Option (List ℕ)
@@ -12,6 +13,6 @@ pub record FilterTerms : Type 0 where
 
 -- a filter of this kind may stand before these destinations
 abbrev pub KeepsBounds : FilterKind → List (List ℕ) → Type 0
-KeepsBounds (Delay delay) destinations = delay ≤ longest_delay
+KeepsBounds (Delay delay) destinations = delay ≤ longest_span
 KeepsBounds (Drop per_million seed) destinations = per_million ≤ million
 KeepsBounds (Reroute name) destinations = destinations ≡ []

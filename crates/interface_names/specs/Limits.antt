@@ -1,5 +1,5 @@
 -- How much a federation may hold.
-use Rattle.std.specs.Prelude.{ℕ, ◌^◌}
+use Rattle.std.specs.Prelude.{ℕ}
 
 -- the most federates
 abbrev pub most_federates : ℕ
@@ -12,10 +12,6 @@ most_interfaces = 256
 -- the most bytes of a name
 abbrev pub longest_name : ℕ
 longest_name = 255
-
--- the greatest delay of a filter, in nanoseconds
-abbrev pub longest_delay : ℕ
-longest_delay = 2 ^ 56
 
 -- the parts of a whole
 abbrev pub million : ℕ

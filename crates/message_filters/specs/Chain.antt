@@ -7,7 +7,8 @@ use Rattle.message_filters.specs.declared.filter.Filter.{Filter}
 use Rattle.message_filters.specs.declared.chain.Filtered.{Filtered}
 use Rattle.message_filters.specs.declared.chain.Filtered.TheVariants.{Kept, Dropped}
 use Rattle.message_filters.specs.Filter.{delay_of, reroute_of, drops}
-use Rattle.message_filters.specs.Limits.{longest_delay, most_filters}
+use Rattle.helics_time.specs.Time.{longest_span}
+use Rattle.message_filters.specs.Limits.{most_filters}
 
 -- the last of x and xs
 abbrev pub last_of : {A : Type 0} → A → List A → A
@@ -25,5 +26,5 @@ filtered_of chain source sequence dest =
 
 -- the delay is one of so few filters, the place one of a chain
 abbrev pub KeepsBounds : Filtered → Type 0
-KeepsBounds (Kept dest delay) = delay ≤ most_filters * longest_delay
+KeepsBounds (Kept dest delay) = delay ≤ most_filters * longest_span
 KeepsBounds (Dropped place) = place < most_filters

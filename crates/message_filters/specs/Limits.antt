@@ -1,9 +1,5 @@
 -- The bounds of filters and chains.
-use Rattle.std.specs.Prelude.{ℕ, ◌^◌}
-
--- the greatest delay of a filter, in nanoseconds
-abbrev pub longest_delay : ℕ
-longest_delay = 2 ^ 56
+use Rattle.std.specs.Prelude.{ℕ}
 
 -- the parts of a whole
 abbrev pub million : ℕ

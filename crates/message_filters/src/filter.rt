@@ -1,6 +1,7 @@
 ghost use Rattle.std.specs.Prelude.{◌≡◌, ◌≤◌, ◌%◌, nat_lt};
 ghost use Rattle.std.specs.Option.{SomeIff};
-ghost use Rattle.message_filters.specs.Limits.{longest_delay, million};
+ghost use Rattle.helics_time.specs.Time.{longest_span};
+ghost use Rattle.message_filters.specs.Limits.{million};
 ghost use Rattle.message_filters.specs.Chance.{drop_word};
 
 use hel_values::EndRef;
@@ -17,13 +18,13 @@ pub struct FilterDelay {
 
 impl Model for FilterDelay {
     ghost use Rattle.std.specs.Prelude.{ℕ, ◌≤◌};
-    ghost use Rattle.message_filters.specs.Limits.{longest_delay};
+    ghost use Rattle.helics_time.specs.Time.{longest_span};
 
     ghost Value = { ℕ };
 
     ghost view = { λ d. d.nanoseconds };
 
-    ghost invariant = { λ d. d.nanoseconds ≤ longest_delay };
+    ghost invariant = { λ d. d.nanoseconds ≤ longest_span };
 
     ghost inverse = { λ n. record { nanoseconds = n } };
 }
@@ -38,7 +39,7 @@ impl FilterDelay {
 
     /// The delay of so many nanoseconds, and none above 2^56.
     pub fn of(nanoseconds: u64) -> Option<FilterDelay>
-        ensures { SomeIff result (nanoseconds ≤ longest_delay) nanoseconds }
+        ensures { SomeIff result (nanoseconds ≤ longest_span) nanoseconds }
     {
         if nanoseconds <= 1 << 56 {
             Some(FilterDelay { nanoseconds })
@@ -50,7 +51,7 @@ impl FilterDelay {
     /// In nanoseconds.
     pub fn nanoseconds(&self) -> u64
         ensures value { result ≡ self.now }
-        ensures bound { result ≤ longest_delay }
+        ensures bound { result ≤ longest_span }
     {
         self.nanoseconds
     }
