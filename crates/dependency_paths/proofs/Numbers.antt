@@ -3,7 +3,7 @@ use Rattle.std.proofs.Common.{◌≡◌, ◌≢◌, inl, inr, ℕ, ◌+◌, ◌<
 use Rattle.std.specs.List.Sorted.{IsStrictlyIncreasing}
 use Rattle.std.proofs.lemmas.Bool.{cases_eq, true≢false}
 use Rattle.hel_lists.specs.Members.{IsIn}
-use Rattle.dependency_paths.proofs.Rows.{rises_more, in_pushed, pushed_in}
+use Rattle.hel_lists.proofs.Members.{in_pushed, pushed_in, rises_pushed}
 
 pub record AreNumbers (row : List Bool) (but n : ℕ) (numbers : List ℕ) : Type 0 where
   pub rises : IsStrictlyIncreasing numbers
@@ -20,7 +20,7 @@ no_numbers row but = record {
 pub one_more : (row : List Bool) (but n : ℕ) (numbers : List ℕ) → AreNumbers row but n numbers → get_or row n false ≡ true → n ≢ but →
     AreNumbers row but (n + 1) (numbers ++ n ∷ [])
 one_more row but n numbers were holds apart = record {
-  rises = rises_more numbers n were.rises (λ x among. (were.sound x among).0);
+  rises = rises_pushed numbers n were.rises (λ x among. (were.sound x among).0);
   sound = λ a among. elim (in_pushed numbers n a among) [
     | inl within ↦ let is = were.sound a within in (omega arith, is.1, is.2)
     | inr last ↦ (omega arith, subst (λ (k : ℕ). k ≢ but) (sym last) apart, subst (λ (k : ℕ). get_or row k false ≡ true) (sym last) holds)

@@ -1,48 +1,7 @@
 -- Ascending lists and their members.
-use Rattle.std.proofs.Common.{◌≡◌, ◌⊎◌, inl, inr, ℕ, zero, suc, ◌+◌, ◌<◌, List, [], ◌∷◌, ◌++◌, length, get_or, arith, refl, sym, ◌∙◌, ap, subst, length-append}
+use Rattle.std.proofs.Common.{◌≡◌, inl, inr, ℕ, suc, ◌+◌, ◌<◌, List, [], ◌∷◌, length, get_or, arith, refl, sym, ◌∙◌, ap, subst}
 use Rattle.std.specs.List.Sorted.{IsStrictlyIncreasing}
-use Rattle.std.proofs.lemmas.Bool.{cases_eq}
-use Rattle.std.proofs.lemmas.List.{get_or_append_left}
-use Rattle.std.proofs.Math.Seq.{get_or-append_seam}
 use Rattle.hel_lists.specs.Members.{IsIn}
-
--- a member of a list with one more item
-pub in_pushed : {A : Type 0} (xs : List A) (y x : A) → IsIn x (xs ++ y ∷ []) → IsIn x xs ⊎ (x ≡ y)
-in_pushed [] y x among = elim among [ inl here ↦ inr here | inr none ↦ absurd none ]
-in_pushed (z ∷ zs) y x among = elim among [
-  | inl here ↦ inl (inl here)
-  | inr later ↦ elim (in_pushed zs y x later) [ inl within ↦ inl (inr within) | inr last ↦ inr last ]
-]
-
-pub pushed_in : {A : Type 0} (xs : List A) (y x : A) → IsIn x xs ⊎ (x ≡ y) → IsIn x (xs ++ y ∷ [])
-pushed_in [] y x among = elim among [ inl none ↦ absurd none | inr last ↦ inl last ]
-pushed_in (z ∷ zs) y x among = elim among [
-  | inl within ↦ elim within [ inl here ↦ inl here | inr later ↦ inr (pushed_in zs y x (inl later)) ]
-  | inr last ↦ inr (pushed_in zs y x (inr last))
-]
-
--- the item at a place is a member
-pub at_in : {A : Type 0} (xs : List A) (k : ℕ) (d : A) → k < length xs → IsIn (get_or xs k d) xs
-at_in [] k d below = absurd (omega arith)
-at_in (x ∷ xs) zero d below = inl refl
-at_in (x ∷ xs) (suc k) d below = inr (at_in xs k d (omega arith))
-
--- a list that ascends goes on ascending with a greater number
-pub rises_more : (xs : List ℕ) (y : ℕ) → IsStrictlyIncreasing xs → ((x : ℕ) → IsIn x xs → x < y) → IsStrictlyIncreasing (xs ++ y ∷ [])
-rises_more xs y up above k below =
-    let long : length (xs ++ y ∷ []) ≡ length xs + 1 = length-append xs (y ∷ []) in
-    let here : k < length xs = omega arith in
-    let left : get_or (xs ++ y ∷ []) k 0 ≡ get_or xs k 0 = get_or_append_left xs (y ∷ []) 0 k here in
-    elim (cases_eq (k + 1) (length xs)) [
-      | inl last ↦
-          let right : get_or (xs ++ y ∷ []) (k + 1) 0 ≡ y = ap (λ (j : ℕ). get_or (xs ++ y ∷ []) j 0) last ∙ get_or-append_seam xs y [] 0 in
-          let less : get_or xs k 0 < y = above (get_or xs k 0) (at_in xs k 0 here) in
-          omega arith
-      | inr more ↦
-          let right : get_or (xs ++ y ∷ []) (k + 1) 0 ≡ get_or xs (k + 1) 0 = get_or_append_left xs (y ∷ []) 0 (k + 1) (omega arith) in
-          let less : get_or xs k 0 < get_or xs (k + 1) 0 = up k (omega arith) in
-          omega arith
-    ]
 
 -- what comes behind the first ascends
 pub rises_behind : (x : ℕ) (xs : List ℕ) → IsStrictlyIncreasing (x ∷ xs) → IsStrictlyIncreasing xs

@@ -6,10 +6,10 @@ use Rattle.std.proofs.lemmas.List.Filters.{length-filter_both}
 use Rattle.std.proofs.lemmas.List.Sums.{length-filter}
 use Rattle.std.specs.List.{filter, AllWithin}
 use Rattle.std.specs.List.Sorted.{IsPartitionedBy}
-use Rattle.std.proofs.lemmas.Bool.{cases_Bool, true≢false, false≢true}
+use Rattle.std.proofs.lemmas.Bool.{cases_Bool, true≢false, false≢true, not-true, not-false}
 use Rattle.std.proofs.lemmas.Bool.Decides.{nat_tests}
 use Rattle.hel_lists.specs.Members.{IsIn, Each}
-use Rattle.hel_lists.proofs.Members.{in_filter, filter_holds, filter_fails}
+use Rattle.hel_lists.proofs.Members.{at_in, in_filter, filter_holds, filter_fails}
 use Rattle.helics_time.specs.Stamp.{At, IsDue, at_most}
 use Rattle.due_queue.specs.Item.{Parcel, is_due}
 use Rattle.due_queue.specs.Order.{is_sooner, InDueOrder, enqueue}
@@ -17,23 +17,9 @@ use Rattle.due_queue.specs.Queue.{IsQueue, IsPutIn, first_due, is_first_due}
 use Rattle.due_queue.proofs.Sorted.{before_each, in_insert_by, insert_by_first, insert_by_later, insert_by_in_order, filter_in_order}
 use Rattle.due_queue.proofs.Order.{is_sooner_order}
 
--- a test whose contrary holds fails
-not_true : {b : Bool} → not b ≡ true → b ≡ false
-not_true {b} e = elim b as (λ c. not c ≡ true → c ≡ false) [ true ↦ λ f. sym f | false ↦ λ f. refl ] e
-
--- a test whose contrary fails holds
-not_false : {b : Bool} → not b ≡ false → b ≡ true
-not_false {b} e = elim b as (λ c. not c ≡ false → c ≡ true) [ true ↦ λ f. refl | false ↦ λ f. sym f ] e
-
 -- none is sooner than itself
 pub not_itself : (x : Parcel) → is_sooner x x ≡ false
 not_itself x = elim (cases_Bool (is_sooner x x)) [ inl holds ↦ is_sooner_order.one_way x x holds | inr fails ↦ fails ]
-
--- what stands at an index is one of the list
-get_or_in : (xs : List Parcel) (j : ℕ) (d : Parcel) → j < length xs → IsIn (get_or xs j d) xs
-get_or_in [] j d high = absurd (omega arith)
-get_or_in (x ∷ xs) zero d high = inl refl
-get_or_in (x ∷ xs) (suc j) d high = inr (get_or_in xs j d (omega arith))
 
 -- what isn't sooner isn't due earlier
 pub due_at_most : (i j : Parcel) → is_sooner j i ≡ false → at_most i.due j.due ≡ true
@@ -93,10 +79,10 @@ pub insert_at : (i : Parcel) (xs : List Parcel) (n : ℕ) → n ≤ length xs �
 insert_at i [] zero bound ahead behind = refl
 insert_at i [] (suc n) bound ahead behind = absurd (omega arith)
 insert_at i (x ∷ xs) zero bound ahead behind =
-    let holds : is_sooner i x ≡ true = not_false (behind 0 x (omega arith) (omega arith)) in
+    let holds : is_sooner i x ≡ true = not-false _ (behind 0 x (omega arith) (omega arith)) in
     sym (insert_by_first is_sooner i x xs holds)
 insert_at i (x ∷ xs) (suc n) bound ahead behind =
-    let fails : is_sooner i x ≡ false = not_true (ahead 0 x (omega arith) (omega arith)) in
+    let fails : is_sooner i x ≡ false = not-true _ (ahead 0 x (omega arith) (omega arith)) in
     ap (λ (l : List Parcel). x ∷ l) (insert_at i xs n (omega arith) (λ k d low high. ahead (suc k) d (omega arith) (omega arith)) (λ k d low high. behind (suc k) d (omega arith) (omega arith)))
     ∙ sym (insert_by_later is_sooner i x xs fails)
 
@@ -104,7 +90,7 @@ insert_at i (x ∷ xs) (suc n) bound ahead behind =
 pub at_in_order : (xs : List Parcel) (i j : ℕ) (d : Parcel) → InDueOrder xs → i ≤ j → j < length xs → is_sooner (get_or xs j d) (get_or xs i d) ≡ false
 at_in_order [] i j d order low high = absurd (omega arith)
 at_in_order (x ∷ xs) zero zero d order low high = not_itself x
-at_in_order (x ∷ xs) zero (suc j) d order low high = order.0 (get_or xs j d) (get_or_in xs j d (omega arith))
+at_in_order (x ∷ xs) zero (suc j) d order low high = order.0 (get_or xs j d) (at_in xs j d (omega arith))
 at_in_order (x ∷ xs) (suc i) zero d order low high = absurd (omega arith)
 at_in_order (x ∷ xs) (suc i) (suc j) d order low high = at_in_order xs i j d order.1 (omega arith) (omega arith)
 
