@@ -5,7 +5,7 @@ use Rattle.time_state.specs.declared.Cause.TheVariants.{Finished, Failed, Died, 
 use Rattle.time_state.specs.declared.Phase.{Phase}
 use Rattle.time_state.specs.declared.Phase.TheVariants.{Created, Initializing, Entering, Running, Waiting, Ended}
 use Rattle.machine_laws.specs.Plan.{Plan}
-use Rattle.machine_laws.specs.Machine.{Member, member_at, has_failed}
+use Rattle.machine_laws.specs.Machine.{Member, member_at, failed_or_died}
 use Rattle.machine_laws.specs.Moves.{Scripts, Play, move, Moves, IsStill, IsReference, KeepsTimes, opening_play, plays_on, NoneFailed, is_failed, failed_in, IsUpToFailure, StopsAtFailure}
 use Rattle.machine_laws.proofs.Moves.{moved_is, chosen_is, member_stays}
 use Rattle.machine_laws.proofs.Stuck.{AllPlay, move_plays, opening_plays, opening_unfailed, stuck_waits}
@@ -39,7 +39,7 @@ failure_still p scripts w end (f ∷ fs) run = elim run.3 [
 ]
 
 -- one that scripts play has failed only by a call of its own
-unfailed : (q : Phase) → plays_on q ≡ true → is_failed q ≡ false → has_failed q ≡ false
+unfailed : (q : Phase) → plays_on q ≡ true → is_failed q ≡ false → failed_or_died q ≡ false
 unfailed Created plays not = refl
 unfailed Initializing plays not = refl
 unfailed Entering plays not = refl
@@ -59,7 +59,7 @@ move_unfailed n p scripts f w a times e all many none lives x within = elim (cas
       let chosen = chosen_is p scripts w f m.step times m.choice in
       let stays : member_at a.state x ≡ member_at w.state x = ap (λ (v : Play). member_at v.state x) m.is ∙ member_stays p w.state f x m.step (λ h. other (sym h)) chosen.own in
       let known = all.count in
-      ap (λ (k : Member). has_failed k.time.phase) stays ∙ none x (omega (arith, within, known, many))
+      ap (λ (k : Member). failed_or_died k.time.phase) stays ∙ none x (omega (arith, within, known, many))
 ]
 
 failure_none : (n : ℕ) (p : Plan) (scripts : Scripts) (w end : Play) (fs : List ℕ) → KeepsTimes scripts → AllPlay n w.state → NoneFailed w.state → IsUpToFailure p scripts w fs None end → NoneFailed end.state

@@ -11,7 +11,7 @@ use Rattle.time_state.specs.declared.Phase.{Phase}
 use Rattle.time_state.specs.declared.Phase.TheVariants.{Created, Initializing, Entering, Running, Waiting, Ended}
 use Rattle.machine_laws.specs.declared.refusal.CallRefusal.{CallRefusal}
 use Rattle.machine_laws.specs.Plan.{Plan}
-use Rattle.machine_laws.specs.Machine.{Member, State, Step, blank_member, begun_member, new_member, member_at, with_member, has_failed, refusal_of, after, opening, IsRun}
+use Rattle.machine_laws.specs.Machine.{Member, State, Step, blank_member, begun_member, new_member, member_at, with_member, failed_or_died, refusal_of, after, opening, IsRun}
 use Rattle.machine_laws.specs.Machine.Step.{begin, grant}
 use Rattle.machine_laws.specs.Laws.{AllWait}
 use Rattle.machine_laws.specs.Moves.{Doing, Scripts, Play, calls_of, doing_refusal, step_by, or_failure, call_by, in_turn, if_lawful, next_step, moved, move, Moves, IsStill, opening_play, plays_on, NoneFailed, StuckWaits, steps_of_moves}
@@ -143,14 +143,14 @@ all_wait p scripts end n all still none x within = by_phase (member_at end.state
             let moving : None ≡ Some (moved p end x call) = sym (still x) ∙ ap (option_map (moved p end x)) step in
             cc
 
-    by_phase : (q : Phase) → (member_at end.state x).time.phase ≡ q → plays_on (member_at end.state x).time.phase ≡ true → has_failed (member_at end.state x).time.phase ≡ false →
+    by_phase : (q : Phase) → (member_at end.state x).time.phase ≡ q → plays_on (member_at end.state x).time.phase ≡ true → failed_or_died (member_at end.state x).time.phase ≡ false →
         (is_asking (member_at end.state x).time.phase ≡ true) ⊎ ((member_at end.state x).time.phase ≡ Ended Finished)
     by_phase Initializing is plays lives = absurd (moves Initializing is refl)
     by_phase Running is plays lives = absurd (moves Running is refl)
     by_phase Entering is plays lives = inl (ap is_asking is)
     by_phase Waiting is plays lives = inl (ap is_asking is)
     by_phase (Ended Finished) is plays lives = inr is
-    by_phase (Ended Failed) is plays lives = absurd (false≢true (sym lives ∙ ap has_failed is))
+    by_phase (Ended Failed) is plays lives = absurd (false≢true (sym lives ∙ ap failed_or_died is))
     by_phase (Ended Died) is plays lives = absurd (false≢true (sym (ap plays_on is) ∙ plays))
     by_phase (Ended (Halted g)) is plays lives = absurd (false≢true (sym (ap plays_on is) ∙ plays))
     by_phase Created is plays lives = absurd (false≢true (sym (ap plays_on is) ∙ plays))
@@ -194,7 +194,7 @@ stuck_waits p scripts end fs f plan times known moves still none within live no_
 pub opening_unfailed : (p : Plan) → NoneFailed (opening_play p).state
 opening_unfailed p = each p.settings
   where
-    each : (ts : List Terms) (x : ℕ) → x < length (map begun_member (map new_member ts)) → has_failed (slice_index_or (map begun_member (map new_member ts)) x blank_member).time.phase ≡ false
+    each : (ts : List Terms) (x : ℕ) → x < length (map begun_member (map new_member ts)) → failed_or_died (slice_index_or (map begun_member (map new_member ts)) x blank_member).time.phase ≡ false
     each [] x within = absurd (omega (arith, within))
     each (t ∷ ts) zero within = refl
     each (t ∷ ts) (suc x) within = each ts x (omega (arith, within))

@@ -147,10 +147,11 @@ holder_in p s cut (a ∷ more) = if before cut (p.first a (event_in s a)) then h
 abbrev pub grant_refusal : Plan → State → ℕ → Option Unlawful
 grant_refusal p s f = if is_asking (member_at s f).time.phase then holder_in p s (cut_in s f) (p.ancestors f) else Some NotAsked
 
-abbrev pub has_failed : Phase → Bool
-has_failed (Ended Failed) = true
-has_failed (Ended Died) = true
-has_failed phase = false
+-- it failed or died, so a halt may name it
+abbrev pub failed_or_died : Phase → Bool
+failed_or_died (Ended Failed) = true
+failed_or_died (Ended Died) = true
+failed_or_died phase = false
 
 -- a federate's number that isn't the plan's comes first
 abbrev pub if_known : State → ℕ → Option Unlawful → Option Unlawful
@@ -171,7 +172,7 @@ refusal_of p s (finish f) = if_refused s f (finish_refusal (member_at s f))
 refusal_of p s (fail f text) = if_refused s f (end_refusal (member_at s f).time.phase)
 refusal_of p s (die f) = if_refused s f (end_refusal (member_at s f).time.phase)
 refusal_of p s (halt core f) =
-    if p.is_core core then if_known s f (if has_failed (member_at s f).time.phase then None else Some NothingFailed) else Some StrangeNumber
+    if p.is_core core then if_known s f (if failed_or_died (member_at s f).time.phase then None else Some NothingFailed) else Some StrangeNumber
 
 -- the times in a step are times
 abbrev pub KeepsTime : Step → Type 0

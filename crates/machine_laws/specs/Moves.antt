@@ -12,7 +12,7 @@ use Rattle.machine_laws.specs.declared.refusal.CallRefusal.{CallRefusal}
 use Rattle.machine_laws.specs.declared.refusal.Unlawful.{Unlawful}
 use Rattle.machine_laws.specs.Refusal.{refusal_by_time, refusal_word}
 use Rattle.machine_laws.specs.Plan.{Call, Plan, IsPlan}
-use Rattle.machine_laws.specs.Machine.{State, Member, Step, member_at, has_failed, refusal_of, make_refusal, finish_refusal, end_refusal, after, opening, KeepsTime, IsRun, logs_of}
+use Rattle.machine_laws.specs.Machine.{State, Member, Step, member_at, failed_or_died, refusal_of, make_refusal, finish_refusal, end_refusal, after, opening, KeepsTime, IsRun, logs_of}
 use Rattle.machine_laws.specs.Machine.Step.{begin, enter, make, request, grant, finish, fail}
 use Rattle.machine_laws.specs.Laws.{Keeps, WaitForEachOther}
 
@@ -169,9 +169,9 @@ plays_on (Ended Finished) = true
 plays_on (Ended Failed) = true
 plays_on phase = false
 
--- no federate has failed
+-- no federate has failed or died
 abbrev pub NoneFailed : State → Type 0
-NoneFailed s = (f : ℕ) → f < length s.members → has_failed (member_at s f).time.phase ≡ false
+NoneFailed s = (f : ℕ) → f < length s.members → failed_or_died (member_at s f).time.phase ≡ false
 
 -- Where runs of scripts end, none failed and one lives, two that wait for current updates wait for each other.
 abbrev pub StuckWaits : Type 0

@@ -72,43 +72,44 @@ pub fn first_laws()
 {}
 
 /// The steps of moves of scripted federates, in order, are lawful, and lead to the same end. So these laws hold
-/// of them: docs/RULES.md, Scripts.
+/// of them: docs/RULES.md, Reference run.
 pub fn moves_run()
     ensures { MovesRun }
 {}
 
-/// Two moves of different federates may be taken in either order, to the same end: docs/RULES.md, Scripts.
+/// Two moves of different federates may be taken in either order, to the same end: docs/RULES.md, Reference run.
 pub fn diamond()
     ensures { Diamond }
 {}
 
 /// From any state of a run all runs of scripts that go on until no federate may move end alike:
-/// docs/RULES.md, Scripts.
+/// docs/RULES.md, Reference run.
 pub fn one_end()
     ensures { OneEnd }
 {}
 
 /// From any state of a run from which a run of scripts ends, every order of moves ends there, in as many moves,
-/// and the reference run is one of these orders: docs/RULES.md, Scripts.
+/// and the reference run is one of these orders: docs/RULES.md, Reference run.
 pub fn orders_end()
     ensures orders { OrdersEnd }
     ensures reference { ReferenceEnds }
 {}
 
 /// From the opening all runs of scripts that go on until no federate may move end alike: docs/RULES.md,
-/// Scripts.
+/// Reference run.
 pub fn one_answer()
     ensures { OneAnswer }
 {}
 
 /// Where a run of scripts goes on until no federate may move, none has failed and one is live then, two federates
-/// that wait for current updates are each other's ancestors: docs/RULES.md, Scripts.
+/// that wait for current updates are each other's ancestors: docs/RULES.md, Grants.
 pub fn stuck_waits()
     ensures { StuckWaits }
 {}
 
 /// A run of scripts up to its first failure is one of moves. Where none failed it is the reference run; and where a
-/// federate is live then, two that wait for current updates are each other's ancestors: docs/RULES.md, Scripts.
+/// federate is live then, two that wait for current updates are each other's ancestors: docs/RULES.md, Reference
+/// run and Grants.
 pub fn stops_at_failure()
     ensures { StopsAtFailure }
 {}

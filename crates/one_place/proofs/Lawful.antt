@@ -9,7 +9,7 @@ use Rattle.time_state.specs.declared.Phase.{Phase}
 use Rattle.time_state.specs.declared.Phase.TheVariants.{Created, Initializing, Entering, Running, Waiting, Ended}
 use Rattle.machine_laws.specs.declared.refusal.CallRefusal.{CallRefusal}
 use Rattle.machine_laws.specs.Plan.Call.{publish, send}
-use Rattle.machine_laws.specs.Machine.{State, Step, member_at, event_in, cut_in, holder_in, limit_refusal, by_phase, if_known, grant_refusal, has_failed, items_in, refusal_of}
+use Rattle.machine_laws.specs.Machine.{State, Step, member_at, event_in, cut_in, holder_in, limit_refusal, by_phase, if_known, grant_refusal, failed_or_died, items_in, refusal_of}
 use Rattle.machine_laws.specs.Machine.Step.{begin, enter, make, request, grant, finish, fail, die, halt}
 use Rattle.machine_laws.specs.Plan.{Call, Leg, Plan, item_of, legs_of}
 use Rattle.machine_laws.specs.declared.refusal.Unlawful.{Unlawful}
@@ -208,7 +208,7 @@ step_condition p s (finish f) = known_condition s f _ (call_condition _)
 step_condition p s (fail f text) = known_condition s f _ (call_condition _)
 step_condition p s (die f) = known_condition s f _ (call_condition _)
 step_condition p s (halt core f) =
-    if_tests (p.is_core core) (if_known s f (if has_failed (member_at s f).time.phase then None else Some NothingFailed)) (Some StrangeNumber)
-    (known_condition s f (if has_failed (member_at s f).time.phase then None else Some NothingFailed)
-    (if_tests (has_failed (member_at s f).time.phase) None (Some NothingFailed) (λ is. cc) (λ is. cc)))
+    if_tests (p.is_core core) (if_known s f (if failed_or_died (member_at s f).time.phase then None else Some NothingFailed)) (Some StrangeNumber)
+    (known_condition s f (if failed_or_died (member_at s f).time.phase then None else Some NothingFailed)
+    (if_tests (failed_or_died (member_at s f).time.phase) None (Some NothingFailed) (λ is. cc) (λ is. cc)))
     (λ is. cc)

@@ -4,7 +4,7 @@ ghost use Rattle.std.specs.Option.{option_or};
 ghost use Rattle.time_state.specs.Fed.{enter_refusal, request_refusal};
 ghost use Rattle.machine_laws.specs.declared.refusal.Unlawful.TheVariants.{NothingFailed};
 ghost use Rattle.machine_laws.specs.Refusal.{refusal_by_time};
-ghost use Rattle.machine_laws.specs.Machine.{limit_refusal, by_phase, end_refusal, has_failed};
+ghost use Rattle.machine_laws.specs.Machine.{limit_refusal, by_phase, end_refusal, failed_or_died};
 ghost use Rattle.one_place.specs.Members.{sender_of};
 
 use helics_time::MAX;
@@ -91,7 +91,7 @@ pub fn end_refusal(time: &FedTime) -> Option<CallRefusal>
 
 /// A halt names a federate that has failed or died.
 pub fn halt_refusal(time: &FedTime) -> Option<Unlawful>
-    ensures { result ≡ (if has_failed time.now.phase then None else Some NothingFailed) }
+    ensures { result ≡ (if failed_or_died time.now.phase then None else Some NothingFailed) }
 {
     match time.phase() {
         Phase::Ended(Cause::Failed | Cause::Died) => None,
