@@ -1,10 +1,13 @@
 -- Grants rise on their grid, and the logs tell of them.
 use Rattle.std.proofs.Common.{◌≡◌, ◌⊎◌, inl, inr, ℕ, zero, suc, ◌+◌, ◌<◌, ◌≤◌, Bool, true, false, arith, refl, sym, ◌∙◌, ap, subst, List, [], ◌∷◌, ◌++◌, get_or}
 use Rattle.std.specs.Prelude.{◌==◌, if◌then◌else◌, map}
+use Rattle.std.specs.List.Sorted.{IsStrictlyIncreasing}
 use Rattle.std.proofs.lemmas.Bool.{eqb-true, eq-eqb, false≢true}
+use Rattle.std.proofs.lemmas.List.{map-append}
 use Rattle.helics_time.specs.Stamp.{At, IsDue, rank}
 use Rattle.helics_time.specs.Settings.{Terms}
-use Rattle.hel_lists.specs.Members.{IsIn, Each}
+use Rattle.hel_lists.specs.Members.{Each}
+use Rattle.hel_lists.proofs.Members.{in_map, in_pushed, rises_pushed}
 use Rattle.due_queue.specs.Item.{Parcel}
 use Rattle.iteration_rules.specs.declared.Kind.TheVariants.{NextStep, Iterating}
 use Rattle.time_state.specs.Fed.{Fed, IsFed, zero_stamp, event_of, is_asking, is_first, is_iterating, request_stamp, grant_of, least_with}
@@ -17,7 +20,7 @@ use Rattle.machine_laws.specs.declared.logs.LogEntry.{LogEntry}
 use Rattle.machine_laws.specs.Plan.{Plan, IsPlan}
 use Rattle.machine_laws.specs.Machine.{Member, State, Step, member_at, blank_member, default_terms, new_member, opening, dues_to, granted_member, IsLawful, after, IsRun}
 use Rattle.machine_laws.specs.Machine.Step.{make, grant}
-use Rattle.machine_laws.specs.Laws.{Keeps, OnGrid, GrantsOnGrid, Rises, LogsRise, LogsTell, BeginsWithEntry, stamp_of, last_stamp, iterating_after, iterating_last}
+use Rattle.machine_laws.specs.Laws.{Keeps, OnGrid, GrantsOnGrid, entry_rank, Rises, LogsRise, LogsTell, BeginsWithEntry, stamp_of, last_stamp, iterating_after, iterating_last}
 use Rattle.machine_laws.proofs.Accepted.{may_grant}
 use Rattle.machine_laws.proofs.Calm.{Calmer, is_past, calm_step}
 use Rattle.machine_laws.proofs.Cuts.{dues_of}
@@ -92,24 +95,11 @@ grants_on_grid p s f before plan run lawful =
     let keeps = keeps_run p (opening p) before s plan (keeps_opening p plan) run in
     on_grid (member_at s f).time (dues_to s.items f) (keeps.feds f) (dues_of p s f keeps) (may_grant p s f lawful.0).asks
 
--- a log with one more entry: what is in it
-in_push : {A : Type 0} (xs : List A) (y x : A) → IsIn x (xs ++ y ∷ []) → IsIn x xs ⊎ (x ≡ y)
-in_push [] y x among = elim among [ inl here ↦ inr here | inr none ↦ absurd none ]
-in_push (z ∷ xs) y x among = elim among [
-  | inl here ↦ inl (inl here)
-  | inr later ↦ elim (in_push xs y x later) [ inl old ↦ inl (inr old) | inr new ↦ inr new ]
-]
-
--- its stamps rise where the new one is above the others
-rises_push : (es : List LogEntry) (e : LogEntry) → Rises es → Each (λ (x : LogEntry). rank (stamp_of x.grant) < rank (stamp_of e.grant)) es → Rises (es ++ e ∷ [])
-rises_push [] e rises below = ((λ x none. absurd none), tt)
-rises_push (x ∷ es) e rises below = (
-  (λ y among. elim (in_push es e y among) [
-    | inl old ↦ rises.0 y old
-    | inr new ↦ subst (λ (z : LogEntry). rank (stamp_of x.grant) < rank (stamp_of z.grant)) (sym new) (below x (inl refl))
-  ]),
-  rises_push es e rises.1 (λ y among. below y (inr among)),
-)
+-- the stamps of a log with one more entry rise where the new one is above the others
+rises_push : (es : List LogEntry) (e : LogEntry) → Rises es → Each (λ (x : LogEntry). entry_rank x < entry_rank e) es → Rises (es ++ e ∷ [])
+rises_push es e rises below =
+    subst IsStrictlyIncreasing (sym (map-append entry_rank es (e ∷ []))) (rises_pushed (map entry_rank es) (entry_rank e) rises (λ y among.
+    let x = in_map entry_rank es y among in subst (λ (k : ℕ). k < entry_rank e) (sym x.2) (below x.0 x.1)))
 
 -- its last stamp is that of the new entry
 last_push : (s : At) (es : List LogEntry) (e : LogEntry) → last_stamp s (es ++ e ∷ []) ≡ stamp_of e.grant
@@ -158,7 +148,7 @@ logged_calm {m} {n} calm logged = record {
 logged_grant : (m : Member) (dues : List At) (handed : List Parcel) → IsFed m.time → Each IsDue dues → is_asking m.time.phase ≡ true → Logged m → Logged (granted_member m dues handed)
 logged_grant m dues handed fed due asks logged = record {
   rises = rises_push m.log _ logged.rises (λ y among. (let b = logged.below y among in omega (arith, b, above)));
-  below = λ y among. elim (in_push m.log _ y among) [
+  below = λ y among. elim (in_pushed m.log _ y among) [
     | inl old ↦ (let b = logged.below y old in omega (arith, b, above))
     | inr new ↦ (let e : rank (stamp_of y.grant) ≡ rank (event_of m.time dues) = ap (λ (z : LogEntry). rank (stamp_of z.grant)) new in omega (arith, e))
   ];
@@ -215,7 +205,7 @@ logged_run p s (step ∷ steps) t plan keeps run logged x =
 -- and it holds at the opening
 logged_new : (terms : Terms) → Logged (new_member terms)
 logged_new terms = record {
-  rises = tt;
+  rises = λ k below. absurd (omega arith);
   below = λ y none. absurd none;
   last = refl;
   count = refl;

@@ -8,9 +8,9 @@ use Rattle.helics_time.specs.Stamp.{At, IsStamp, IsDue, at_most, rank}
 use Rattle.helics_time.proofs.Ranks.{most_of}
 use Rattle.hel_lists.specs.Members.{IsIn, Each}
 use Rattle.hel_lists.proofs.Members.{in_map, map_in, in_filter, filter_in, filter_within}
-use Rattle.due_queue.specs.Item.{Parcel}
+use Rattle.due_queue.specs.Item.{Parcel, is_to}
 use Rattle.time_state.specs.Fed.{IsEvent}
-use Rattle.machine_laws.specs.Machine.{dues_to, is_to, is_handed, is_left}
+use Rattle.machine_laws.specs.Machine.{dues_to, is_handed, is_left}
 
 -- a due to f is that of an item to f
 pub in_dues : (items : List Parcel) (f : ℕ) (d : At) → IsIn d (dues_to items f) → (i : Parcel) × IsIn i items × (i.target ≡ f) × (d ≡ i.due)

@@ -8,10 +8,10 @@ use Rattle.std.proofs.lemmas.List.Elements.{filter-append}
 use Rattle.helics_time.specs.Settings.{Terms}
 use Rattle.hel_lists.specs.Members.{Each}
 use Rattle.hel_lists.proofs.Members.{in_filter}
-use Rattle.due_queue.specs.Item.{Parcel}
+use Rattle.due_queue.specs.Item.{Parcel, is_to}
 use Rattle.machine_laws.specs.declared.logs.LogEntry.{LogEntry}
 use Rattle.machine_laws.specs.Plan.{Plan, IsPlan}
-use Rattle.machine_laws.specs.Machine.{Member, State, Step, member_at, blank_member, new_member, opening, cut_in, is_to, is_handed, handed_in, IsLawful, after, IsRun}
+use Rattle.machine_laws.specs.Machine.{Member, State, Step, member_at, blank_member, new_member, opening, cut_in, is_handed, handed_in, IsLawful, after, IsRun}
 use Rattle.machine_laws.specs.Machine.Step.{make, grant}
 use Rattle.machine_laws.specs.Laws.{Keeps, handed_by, all_handed, logged_items, LogsHold}
 use Rattle.machine_laws.proofs.Accepted.{may_grant}

@@ -1,10 +1,11 @@
 -- Laws of every run.
-use Rattle.std.specs.Prelude.{ℕ, ◌+◌, ◌<◌, ◌≤◌, ◌≡◌, ◌≢◌, ◌⊎◌, ◌↔◌, Bool, true, false, List, [], ◌∷◌, ◌++◌, length, slice_index_or, Some, None}
-use Rattle.std.specs.List.{filter}
+use Rattle.std.specs.Prelude.{ℕ, ◌+◌, ◌<◌, ◌≤◌, ◌≡◌, ◌≢◌, ◌⊎◌, ◌↔◌, Bool, true, false, List, [], ◌∷◌, ◌++◌, length, map, slice_index_or, Some, None}
+use Rattle.std.specs.List.{filter, flat_map}
+use Rattle.std.specs.List.Sorted.{IsStrictlyIncreasing}
 use Rattle.helics_time.specs.Stamp.{At, IsDue, rank}
 use Rattle.helics_time.specs.Settings.{Terms, is_lawful, delta_of}
 use Rattle.hel_lists.specs.Members.{IsIn, Each}
-use Rattle.due_queue.specs.Item.{Parcel}
+use Rattle.due_queue.specs.Item.{Parcel, is_to}
 use Rattle.due_queue.specs.Order.{InOrder}
 use Rattle.iteration_rules.specs.Iteration.{iterates, effective}
 use Rattle.iteration_rules.specs.declared.Kind.{Kind}
@@ -18,7 +19,7 @@ use Rattle.time_state.specs.declared.Phase.TheVariants.{Entering, Waiting, Ended
 use Rattle.machine_laws.specs.declared.logs.LogEntry.{LogEntry}
 use Rattle.machine_laws.specs.declared.refusal.Unlawful.TheVariants.{StrangeNumber, NotAsked, Early}
 use Rattle.machine_laws.specs.Plan.{Call, Plan, IsPlan}
-use Rattle.machine_laws.specs.Machine.{State, Step, default_terms, member_at, event_in, cut_in, dues_to, handed_in, items_in, is_to, requested_member, refusal_of, IsRun, IsLawful, after, opening}
+use Rattle.machine_laws.specs.Machine.{State, Step, default_terms, member_at, event_in, cut_in, dues_to, handed_in, items_in, requested_member, refusal_of, IsRun, IsLawful, after, opening}
 use Rattle.machine_laws.specs.Machine.Step.{make, request, grant}
 
 -- what every state of a run keeps
@@ -59,10 +60,12 @@ abbrev pub GrantsOnGrid : Type 0
 GrantsOnGrid = (p : Plan) (s : State) (f : ℕ) (before : List Step) → IsPlan p → IsRun p (opening p) before s → IsLawful p s (grant f) →
     OnGrid (member_at s f).time (grant_of (member_at s f).time (dues_to s.items f))
 
+abbrev pub entry_rank : LogEntry → ℕ
+entry_rank e = rank (stamp_of e.grant)
+
 -- each stamp of a log is above those before it
 abbrev pub Rises : List LogEntry → Type 0
-Rises [] = Unit {0}
-Rises (e ∷ entries) = Each (λ later. rank (stamp_of e.grant) < rank (stamp_of later.grant)) entries × Rises entries
+Rises entries = IsStrictlyIncreasing (map entry_rank entries)
 
 -- So the stamps of each log strictly rise.
 abbrev pub LogsRise : Type 0
@@ -235,8 +238,7 @@ ItemsAddUp = (p : Plan) (steps : List Step) (end : State) (sort : Parcel → Boo
 
 -- all that a log tells of as handed over
 abbrev pub logged_items : List LogEntry → List Parcel
-logged_items [] = []
-logged_items (e ∷ entries) = e.items ++ logged_items entries
+logged_items entries = flat_map (λ (e : LogEntry). e.items) entries
 
 -- The logs hold all that was handed over, in order: each federate's log what was for it.
 abbrev pub LogsHold : Type 0

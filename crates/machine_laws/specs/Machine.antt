@@ -3,9 +3,9 @@ use Rattle.std.specs.Prelude.{ℕ, suc, ◌+◌, ◌^◌, ◌≤◌, ◌≡◌, 
 use Rattle.std.specs.List.{filter}
 use Rattle.std.specs.Option.{option_or}
 use Rattle.helics_time.specs.Time.{max_time}
-use Rattle.helics_time.specs.Stamp.{At, before, at_most}
+use Rattle.helics_time.specs.Stamp.{At, before}
 use Rattle.helics_time.specs.Settings.{Terms}
-use Rattle.due_queue.specs.Item.{Parcel}
+use Rattle.due_queue.specs.Item.{Parcel, is_to, is_due}
 use Rattle.due_queue.specs.Order.{insert_all}
 use Rattle.iteration_rules.specs.declared.Mode.{Mode}
 use Rattle.time_state.specs.Fed.{Fed, created, requested, granted, ended, event_of, cut_of, grant_of, enter_refusal, request_refusal, is_asking, is_live}
@@ -80,10 +80,6 @@ opening p = record { begun = false; members = map new_member p.settings; items =
 abbrev pub member_at : State → ℕ → Member
 member_at s f = slice_index_or s.members f blank_member
 
--- an item for f
-abbrev pub is_to : ℕ → Parcel → Bool
-is_to f i = i.target == f
-
 -- the dues of the items to a federate
 abbrev pub dues_to : List Parcel → ℕ → List At
 dues_to items f = map (λ (i : Parcel). i.due) (filter (is_to f) items)
@@ -97,7 +93,7 @@ cut_in s f = cut_of (member_at s f).time (dues_to s.items f)
 
 -- a grant of f with this cut hands it over
 abbrev pub is_handed : ℕ → At → Parcel → Bool
-is_handed f cut i = (i.target == f) && at_most i.due cut
+is_handed f cut i = is_to f i && is_due cut i
 
 abbrev pub is_left : ℕ → At → Parcel → Bool
 is_left f cut i = not (is_handed f cut i)

@@ -7,11 +7,11 @@ use Rattle.std.proofs.lemmas.Bool.Decides.{nat_tests}
 use Rattle.std.proofs.lemmas.List.{append-nil}
 use Rattle.hel_lists.specs.Members.{IsIn, Each}
 use Rattle.helics_time.specs.Stamp.{At}
-use Rattle.due_queue.specs.Item.{Parcel, is_due}
+use Rattle.due_queue.specs.Item.{Parcel, is_to, is_due}
 use Rattle.due_queue.specs.Order.{comes_before, is_sooner, insert, enqueue}
 use Rattle.due_queue.proofs.Order.{one_target, insert_first, insert_later}
 use Rattle.due_queue.proofs.Sorted.{insert_by_first, insert_by_later, insert_by_front}
-use Rattle.machine_laws.specs.Machine.{is_to, is_handed, is_left}
+use Rattle.machine_laws.specs.Machine.{is_handed, is_left}
 use Rattle.one_place.specs.declared.seat.Clock.{Clock}
 use Rattle.interface_names.specs.declared.records.FederateRecord.{FederateRecord}
 use Rattle.one_place.specs.Members.{AreQueued, new_clocks, clock_at, gathered}

@@ -9,7 +9,7 @@ use Rattle.std.proofs.lemmas.List.{get_or_past, get_or_read, set-get_or}
 use Rattle.hel_lists.specs.Members.{IsIn, Each}
 use Rattle.hel_lists.proofs.Members.{in_filter}
 use Rattle.helics_time.specs.Stamp.{At}
-use Rattle.due_queue.specs.Item.{Parcel, is_due}
+use Rattle.due_queue.specs.Item.{Parcel, is_to, is_due}
 use Rattle.time_state.specs.Fed.{cut_of, event_of, is_live, zero_stamp}
 use Rattle.time_state.specs.declared.Phase.{Phase}
 use Rattle.time_state.specs.declared.Phase.TheVariants.{Created, Initializing, Entering, Running, Waiting, Ended}
@@ -17,7 +17,7 @@ use Rattle.machine_laws.specs.declared.logs.FedLog.{FedLog}
 use Rattle.helics_time.specs.Settings.{Terms, IsTerms}
 use Rattle.interface_names.specs.declared.records.FederateRecord.{FederateRecord}
 use Rattle.federation_plan.specs.Plan.{IsKept}
-use Rattle.machine_laws.specs.Machine.{Member, State, new_member, blank_member, member_at, event_in, cut_in, dues_to, is_to, is_handed, is_left, handed_in, left_in, with_member, begun_member, granted_member, log_of}
+use Rattle.machine_laws.specs.Machine.{Member, State, new_member, blank_member, member_at, event_in, cut_in, dues_to, is_handed, is_left, handed_in, left_in, with_member, begun_member, granted_member, log_of}
 use Rattle.one_place.specs.declared.seat.Clock.{Clock}
 use Rattle.one_place.specs.Members.{member_of, dues_of, IsSeat, IsSeatOf, IsClockOf, AreSeats, AreClocks, AreKept, joined, gathered, state_of, blank_clock, blank_log, clock_at, log_at, new_clock, new_clocks, halted_if}
 use Rattle.one_place.proofs.Events.{new_fed}
