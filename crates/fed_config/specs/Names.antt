@@ -1,7 +1,7 @@
 -- What the code keeps while it reads a script.
 use Rattle.std.specs.Prelude.{◌≤◌, ◌^◌, length, List, [], ◌∷◌}
 use Rattle.interface_names.specs.declared.records.FederateRecord.{FederateRecord}
-use Rattle.fed_script.specs.Round.{copies}
+use Rattle.std.specs.List.{repeat}
 use Rattle.fed_script.specs.Script.{NamesTime}
 use Rattle.fed_script.specs.declared.word.Word.{Word}
 use Rattle.fed_config.specs.Places.{place_at}
@@ -21,7 +21,7 @@ HasFew f = (length f.publications ≤ 2 ^ 16) × (length f.inputs ≤ 2 ^ 16) ×
 -- the words of a step, with each repeat written out
 abbrev pub step_words : Step → List Word
 step_words (steps.Word word) = word ∷ []
-step_words (steps.Repeat times body) = copies times body
+step_words (steps.Repeat times body) = repeat times body
 
 abbrev pub StepNamesTime : Step → Type 0
 StepNamesTime (steps.Word word) = NamesTime word

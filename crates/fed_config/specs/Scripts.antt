@@ -7,7 +7,7 @@ use Rattle.iteration_rules.specs.declared.Mode.{Mode}
 use Rattle.iteration_rules.specs.declared.Mode.TheVariants.{Force, IfNeeded}
 use Rattle.interface_names.specs.declared.records.FederateRecord.{FederateRecord}
 use Rattle.hel_values.specs.declared.Value.{Value}
-use Rattle.fed_script.specs.Round.{copies}
+use Rattle.std.specs.List.{repeat}
 use Rattle.fed_script.specs.Script.{Course}
 use Rattle.fed_script.specs.declared.word.Word.{Word}
 use Rattle.fed_script.specs.declared.word.Word.TheVariants as words
@@ -184,7 +184,7 @@ repeat_of false body members = here (Err TooDeep)
 repeat_of true body members = do
   times ← needed_at (codes "times") (whole_between 0 most_times) members
   repeated ← needed_at (codes "body") body members
-  Ok (copies times repeated)
+  Ok (repeat times repeated)
 
 -- the words of an action by its verb; may says whether a repeat may stand here, and body how its body is read
 abbrev pub words_of : Known → Bool → (Data → Read (List Word)) → List Member → Verb → Read (List Word)

@@ -5,17 +5,15 @@ use Rattle.std.proofs.lemmas.List.{append-nil, append_assoc, length-append, drop
 use Rattle.fed_script.specs.declared.word.Word.{Word}
 use Rattle.fed_script.specs.declared.rounds.Part.{Part}
 use Rattle.fed_script.specs.declared.rounds.Part.TheVariants.{Word as SingleWord, Repeat}
-use Rattle.fed_script.specs.Round.{copies}
+use Rattle.std.specs.List.{repeat}
 use Rattle.fed_script.specs.Rounds.{words_of, rest_of, unrolled, rest_from, IsFresh, AreFresh, OthersFresh}
 
 -- one round, and then the others
-pub copies_first : {A : Type 0} (n : ℕ) (xs : List A) → 0 < n → xs ++ copies (n - 1) xs ≡ copies n xs
-unfolding copies
+pub copies_first : {A : Type 0} (n : ℕ) (xs : List A) → 0 < n → xs ++ repeat (n - 1) xs ≡ repeat n xs
 copies_first zero xs some = absurd (omega arith)
-copies_first {A = A} (suc n) xs some = let e : suc n - 1 ≡ n = omega arith in ap (λ k. xs ++ copies k xs) e
+copies_first {A = A} (suc n) xs some = let e : suc n - 1 ≡ n = omega arith in ap (λ k. xs ++ repeat k xs) e
 
-pub no_copies : {A : Type 0} (xs : List A) → copies zero xs ≡ []
-unfolding copies
+pub no_copies : {A : Type 0} (xs : List A) → repeat zero xs ≡ []
 no_copies xs = refl
 
 -- what is left is what is left of the part at the place, and all that comes behind it
@@ -66,40 +64,37 @@ others_of_all (suc n) (part ∷ parts) fresh = (fresh.0, others_of_all n parts f
 
 -- the part at the place goes on
 pub goes_on : (n left : ℕ) (parts : List Part) (p q : Part) (word : Word) → n < length parts → p ≡ get_or parts n p → rest_of p ≡ word ∷ rest_of q → words_of q ≡ words_of p
-    → rest_from n parts ++ copies left (unrolled parts) ≡ word ∷ (rest_from n (slice_set parts n q) ++ copies left (unrolled (slice_set parts n q)))
+    → rest_from n parts ++ repeat left (unrolled parts) ≡ word ∷ (rest_from n (slice_set parts n q) ++ repeat left (unrolled (slice_set parts n q)))
 goes_on n left parts p q word within at passes same =
     rw (rest_from_at n parts p within at, passes, rest_from_set n parts q within, unrolled_set n parts p q at same) refl
 
 -- the next part begins
 pub begins : (n left : ℕ) (parts : List Part) (p q : Part) (word : Word) → n < length parts → p ≡ get_or parts n p → rest_of p ≡ word ∷ [] → words_of q ≡ words_of p
     → OthersFresh n parts → IsFresh q
-    → rest_from n parts ++ copies left (unrolled parts) ≡ word ∷ (rest_from (suc n) (slice_set parts n q) ++ copies left (unrolled (slice_set parts n q)))
+    → rest_from n parts ++ repeat left (unrolled parts) ≡ word ∷ (rest_from (suc n) (slice_set parts n q) ++ repeat left (unrolled (slice_set parts n q)))
 begins n left parts p q word within at passes same fresh is =
     rw (rest_from_at n parts p within at, passes, rest_from_fresh (suc n) (slice_set parts n q) (all_set n parts q fresh is), behind_set n parts q, unrolled_set n parts p q at same) refl
 
 -- the last part of a round ends
 pub ends : (n left : ℕ) (parts : List Part) (p : Part) (word : Word) → n < length parts → length parts ≤ suc n → p ≡ get_or parts n p → rest_of p ≡ word ∷ []
-    → rest_from n parts ++ copies left (unrolled parts) ≡ word ∷ copies left (unrolled parts)
+    → rest_from n parts ++ repeat left (unrolled parts) ≡ word ∷ repeat left (unrolled parts)
 ends n left parts p word within last at passes =
     rw (rest_from_at n parts p within at, passes, drop_all (suc n) parts last) refl
 
 -- so many rounds that begin
-pub round : (times : ℕ) (parts : List Part) → 0 < times → AreFresh parts → rest_from 0 parts ++ copies (times - 1) (unrolled parts) ≡ copies times (unrolled parts)
+pub round : (times : ℕ) (parts : List Part) → 0 < times → AreFresh parts → rest_from 0 parts ++ repeat (times - 1) (unrolled parts) ≡ repeat times (unrolled parts)
 round times parts some fresh = rw (rest_from_fresh 0 parts fresh) (copies_first times (unrolled parts) some)
 
-pub one_copy : {A : Type 0} (xs : List A) → copies 1 xs ≡ xs
-unfolding copies
+pub one_copy : {A : Type 0} (xs : List A) → repeat 1 xs ≡ xs
 one_copy xs = append-nil xs
 
-pub copies_of_none : {A : Type 0} (n : ℕ) → copies {A = A} n [] ≡ []
-unfolding copies
+pub copies_of_none : {A : Type 0} (n : ℕ) → repeat {A = A} n [] ≡ []
 copies_of_none zero = refl
 copies_of_none (suc n) = copies_of_none n
 
-pub length_copies : {A : Type 0} (n : ℕ) (xs : List A) → length (copies n xs) ≡ n * length xs
-unfolding copies
+pub length_copies : {A : Type 0} (n : ℕ) (xs : List A) → length (repeat n xs) ≡ n * length xs
 length_copies zero xs = omega arith
-length_copies (suc n) xs = length-append xs (copies n xs) ∙ omega (arith, length_copies n xs, suc-mul n (length xs))
+length_copies (suc n) xs = length-append xs (repeat n xs) ∙ omega (arith, length_copies n xs, suc-mul n (length xs))
 
 -- a part is put behind the others
 pub fresh_push : (parts : List Part) (part : Part) → AreFresh parts → IsFresh part → AreFresh (parts ++ part ∷ [])

@@ -8,7 +8,7 @@ use Rattle.fed_script.specs.declared.action.Action.TheVariants.{Publish as publi
 use Rattle.fed_script.specs.declared.word.Word.{Word}
 use Rattle.fed_script.specs.declared.word.Word.TheVariants.{Publish, PublishSum, Send, Echo, Request, Advance, Iterate, Finish, Fail}
 use Rattle.endpoint_messages.specs.declared.Letter.{Letter}
-use Rattle.fed_script.specs.Round.{copies}
+use Rattle.std.specs.List.{repeat}
 use Rattle.fed_script.specs.View.{Sight, letters_at}
 use Rattle.fed_script.specs.Script.{IsInitial, HasTime, NamesTime, KeepTimes, action_of, echo_of, gives, given_from, first_action, next_action, behind, behind_first, words_after, is_echo, echo_first, answers}
 
@@ -111,7 +111,6 @@ pub keep_times_append : (some more : List Word) → KeepTimes some → KeepTimes
 keep_times_append [] more keep keeps = keeps
 keep_times_append (word ∷ some) more keep keeps = (keep.0, keep_times_append some more keep.1 keeps)
 
-pub keep_times_copies : (n : ℕ) (words : List Word) → KeepTimes words → KeepTimes (copies n words)
-unfolding copies
+pub keep_times_copies : (n : ℕ) (words : List Word) → KeepTimes words → KeepTimes (repeat n words)
 keep_times_copies zero words keep = tt
-keep_times_copies (suc n) words keep = keep_times_append words (copies n words) keep (keep_times_copies n words keep)
+keep_times_copies (suc n) words keep = keep_times_append words (repeat n words) keep (keep_times_copies n words keep)

@@ -6,7 +6,7 @@ use Rattle.std.proofs.lemmas.List.Folds.{find-append}
 use Rattle.std.proofs.lemmas.List.{append-nil, take_rest}
 use Rattle.fed_script.specs.declared.word.Word.{Word}
 use Rattle.fed_script.specs.declared.rounds.Part.{Part}
-use Rattle.fed_script.specs.Round.{copies}
+use Rattle.std.specs.List.{repeat}
 use Rattle.fed_script.specs.Rounds.{rest_of, unrolled, rest_from}
 use Rattle.fed_script.proofs.Parts.{rest_from_at}
 
@@ -15,17 +15,16 @@ or_same None = refl
 or_same (Some x) = refl
 
 -- a list that comes often has what it has once
-pub find_copies : {A : Type 0} (p : A → Bool) (n : ℕ) (xs : List A) → find p (copies (suc n) xs) ≡ find p xs
-unfolding copies
+pub find_copies : {A : Type 0} (p : A → Bool) (n : ℕ) (xs : List A) → find p (repeat (suc n) xs) ≡ find p xs
 find_copies p zero xs = ap (find p) (append-nil xs)
-find_copies p (suc n) xs = find-append p xs (copies (suc n) xs) ∙ ap (λ o. option_or (find p xs) o) (find_copies p n xs) ∙ or_same (find p xs)
+find_copies p (suc n) xs = find-append p xs (repeat (suc n) xs) ∙ ap (λ o. option_or (find p xs) o) (find_copies p n xs) ∙ or_same (find p xs)
 
 -- what is left: of the part at the place, behind it, and in later rounds
 pub find_rest : (p : Word → Bool) (n left : ℕ) (parts : List Part) (part : Part) → n < length parts → part ≡ get_or parts n part
-    → find p (rest_from n parts ++ copies left (unrolled parts)) ≡ option_or (option_or (find p (rest_of part)) (find p (unrolled (drop (suc n) parts)))) (find p (copies left (unrolled parts)))
+    → find p (rest_from n parts ++ repeat left (unrolled parts)) ≡ option_or (option_or (find p (rest_of part)) (find p (unrolled (drop (suc n) parts)))) (find p (repeat left (unrolled parts)))
 find_rest p n left parts part within at =
     let behind = unrolled (drop (suc n) parts) in
-    let later = copies left (unrolled parts) in
+    let later = repeat left (unrolled parts) in
     ap (λ ws. find p (ws ++ later)) (rest_from_at n parts part within at)
     ∙ find-append p (rest_of part ++ behind) later
     ∙ ap (λ o. option_or o (find p later)) (find-append p (rest_of part) behind)

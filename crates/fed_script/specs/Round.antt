@@ -1,5 +1,5 @@
 -- Rounds of words: how often words are gone through, and what is left of that.
-use Rattle.std.specs.Prelude.{ℕ, zero, suc, ◌≡◌, Bool, true, false, List, [], ◌∷◌, ◌++◌, Option, Some, None}
+use Rattle.std.specs.Prelude.{ℕ, ◌≡◌, Bool, true, false, List, [], ◌∷◌, Option, Some, None}
 use Rattle.fed_script.specs.declared.word.Word.{Word}
 
 pub record Round : Type 0 where
@@ -9,11 +9,6 @@ pub record Round : Type 0 where
   pub rest : List Word
   -- how deeply repeats are nested in them
   pub depth : ℕ
-
--- a list so many times, one after another
-unfoldable pub copies : {A : Type 0} → ℕ → List A → List A
-copies zero xs = []
-copies (suc n) xs = xs ++ copies n xs
 
 -- the next word passes; after the last of all they stand at their beginning
 abbrev pub Passes : Round → Bool → Round → Type 0

@@ -4,7 +4,8 @@ use Rattle.fed_script.specs.declared.word.Word.{Word}
 use Rattle.fed_script.specs.declared.rounds.Part.{Part}
 use Rattle.fed_script.specs.declared.rounds.Part.TheVariants.{Word as SingleWord, Repeat}
 use Rattle.fed_script.specs.declared.rounds.Rounds.TheInside.{Inside}
-use Rattle.fed_script.specs.Round.{Round, copies}
+use Rattle.std.specs.List.{repeat, AllByRecursion}
+use Rattle.fed_script.specs.Round.{Round}
 
 -- the words of a part
 abbrev pub words_of : Part → List Word
@@ -40,8 +41,7 @@ IsFresh (SingleWord word) = Unit {0}
 IsFresh (Repeat r) = r.rest ≡ r.all
 
 abbrev pub AreFresh : List Part → Type 0
-AreFresh [] = Unit {0}
-AreFresh (part ∷ parts) = IsFresh part × AreFresh parts
+AreFresh parts = AllByRecursion IsFresh parts
 
 -- of each part but the one at a place
 abbrev pub OthersFresh : ℕ → List Part → Type 0
@@ -51,8 +51,8 @@ OthersFresh (suc n) (part ∷ parts) = IsFresh part × OthersFresh n parts
 
 abbrev pub round_of : Inside → Round
 round_of a = record {
-  all = copies a.times (unrolled a.parts.items);
-  rest = rest_from a.place a.parts.items ++ copies a.left (unrolled a.parts.items);
+  all = repeat a.times (unrolled a.parts.items);
+  rest = rest_from a.place a.parts.items ++ repeat a.left (unrolled a.parts.items);
   depth = deepest a.parts.items;
 }
 

@@ -1,6 +1,7 @@
 -- What a script gives over what its federate sees.
 use Rattle.std.specs.Prelude.{ℕ, ◌+◌, ◌≤◌, min, ◌+ℤ◌, Bool, true, false, if◌then◌else◌, Option, Some, None, is_some, unwrap_or, List, [], ◌∷◌}
 use Rattle.std.specs.Int.{w64, saturate_signed}
+use Rattle.std.specs.List.{AllByRecursion}
 use Rattle.helics_time.specs.Time.{max_time}
 use Rattle.hel_values.specs.declared.Value.TheVariants.{Int}
 use Rattle.endpoint_messages.specs.declared.Letter.{Letter}
@@ -95,33 +96,21 @@ abbrev pub IsInitial : List Action → Type 0
 IsInitial [] = Unit {0}
 IsInitial (publishes publication value ∷ actions) = IsInitial actions
 IsInitial (sends endpoint destination payload ∷ actions) = IsInitial actions
-IsInitial (requests time mode ∷ actions) = ⊥
-IsInitial (finishes ∷ actions) = ⊥
-IsInitial (fails text ∷ actions) = ⊥
+IsInitial (action ∷ actions) = ⊥
 
 -- the times that an action asks for are times
 abbrev pub HasTime : Action → Type 0
-HasTime (publishes publication value) = Unit {0}
-HasTime (sends endpoint destination payload) = Unit {0}
 HasTime (requests time mode) = time ≤ max_time
-HasTime finishes = Unit {0}
-HasTime (fails text) = Unit {0}
+HasTime action = Unit {0}
 
 -- the times that words name are times
 abbrev pub NamesTime : Word → Type 0
-NamesTime (Publish publication value) = Unit {0}
-NamesTime (PublishSum publication input add) = Unit {0}
-NamesTime (Send endpoint destination payload) = Unit {0}
-NamesTime (Echo endpoint) = Unit {0}
 NamesTime (Request time) = time ≤ max_time
-NamesTime (Advance by) = Unit {0}
 NamesTime (Iterate time mode) = time ≤ max_time
-NamesTime Finish = Unit {0}
-NamesTime (Fail text) = Unit {0}
+NamesTime word = Unit {0}
 
 abbrev pub KeepTimes : List Word → Type 0
-KeepTimes [] = Unit {0}
-KeepTimes (word ∷ words) = NamesTime word × KeepTimes words
+KeepTimes words = AllByRecursion NamesTime words
 
 -- what every script keeps
 pub record IsCourse (c : Course) : Type 0 where

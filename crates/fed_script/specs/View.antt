@@ -1,5 +1,5 @@
 -- What a federate sees, and what a grant changes of it.
-use Rattle.std.specs.Prelude.{ℕ, ℤ, pos, Option, Some, None, List, [], ◌∷◌, ◌++◌, map, drop, slice_get, slice_index_or, slice_set}
+use Rattle.std.specs.Prelude.{ℕ, ℤ, pos, Option, Some, None, List, [], ◌∷◌, ◌++◌, map, drop, slice_get, slice_index_or, slice_set, flat_map}
 use Rattle.hel_values.specs.declared.EndRef.{EndRef}
 use Rattle.hel_values.specs.declared.Value.{Value}
 use Rattle.hel_values.specs.declared.Value.TheVariants.{Int, Text, Bytes}
@@ -49,8 +49,7 @@ value_in (ValueContent input publication value) = (input, value) ∷ []
 value_in (Message m) = []
 
 abbrev pub values_in : List Parcel → List (ℕ × Value)
-values_in [] = []
-values_in (i ∷ items) = value_in i.content ++ values_in items
+values_in items = flat_map (λ (i : Parcel). value_in i.content) items
 
 -- the messages among them as letters, each with the endpoint that it is for; names gives the global name of an endpoint
 abbrev pub letter_in : (EndRef → List ℕ) → Content → List (ℕ × Letter)
@@ -58,8 +57,7 @@ letter_in names (ValueContent input publication value) = []
 letter_in names (Message m) = (m.destination.index, record { source = names m.original_source; payload = m.payload }) ∷ []
 
 abbrev pub letters_in : (EndRef → List ℕ) → List Parcel → List (ℕ × Letter)
-letters_in names [] = []
-letters_in names (i ∷ items) = letter_in names i.content ++ letters_in names items
+letters_in names items = flat_map (λ (i : Parcel). letter_in names i.content) items
 
 -- the inputs after values that arrive one after another: there is none past the last
 abbrev pub applied : List Input → List (ℕ × Value) → List Input

@@ -1,6 +1,7 @@
 ghost use Rattle.std.specs.Prelude.{◌≡◌, ◌≢◌, ◌<◌, [], find, slice_get};
 ghost use Rattle.std.specs.Option.{option_copied};
-ghost use Rattle.fed_script.specs.Round.{copies, Passes};
+ghost use Rattle.std.specs.List.{repeat};
+ghost use Rattle.fed_script.specs.Round.{Passes};
 ghost use Rattle.fed_script.specs.Script.{gives};
 ghost use Rattle.fed_script.specs.Rounds.{unrolled, words_of, rest_of, AreFresh, PassesPart};
 
@@ -51,7 +52,7 @@ impl Rounds {
         requires times { 0 < times }
         requires parts { parts.items ≢ [] }
         requires fresh { AreFresh parts.items }
-        ensures all { result.all ≡ copies times (unrolled parts.items) }
+        ensures all { result.all ≡ repeat times (unrolled parts.items) }
         ensures rest { result.rest ≡ result.all }
     {
         Rounds {

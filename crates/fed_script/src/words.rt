@@ -1,5 +1,6 @@
 ghost use Rattle.std.specs.Prelude.{◌≡◌, ◌-◌, ◌^◌, [], ◌∷◌, ◌++◌, length, min, OnOk, OnErr};
-ghost use Rattle.fed_script.specs.Round.{copies, left_of};
+ghost use Rattle.std.specs.List.{repeat};
+ghost use Rattle.fed_script.specs.Round.{left_of};
 ghost use Rattle.fed_script.specs.Script.{NamesTime, KeepTimes};
 
 use crate::Word;
@@ -55,7 +56,7 @@ impl Words {
     /// Puts words behind the last, so many times. It takes memory for one part, however many words
     /// that are.
     pub fn push_repeat(&mut self, times: u32, body: Words) -> Result<(), OutOfMemory>
-        ensures ok { OnOk result (self.new ≡ self.old ++ copies times body) }
+        ensures ok { OnOk result (self.new ≡ self.old ++ repeat times body) }
         ensures err { OnErr result (self.new ≡ self.old) }
     {
         if times == 0 || body.parts.is_empty() {

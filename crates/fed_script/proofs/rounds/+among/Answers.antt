@@ -6,7 +6,8 @@ use Rattle.std.proofs.lemmas.List.{at_drop_more}
 use Rattle.std.proofs.lemmas.List.Folds.{find-append}
 use Rattle.fed_script.specs.declared.word.Word.{Word}
 use Rattle.fed_script.specs.declared.rounds.Part.{Part}
-use Rattle.fed_script.specs.Round.{Round, copies}
+use Rattle.std.specs.List.{repeat}
+use Rattle.fed_script.specs.Round.{Round}
 use Rattle.fed_script.specs.Rounds.{unrolled, words_of}
 use Rattle.fed_script.specs.Script.{gives}
 use Rattle.fed_script.proofs.Search.{find_copies}
@@ -19,7 +20,7 @@ Part::first_of_all-returns-in-Repeat t c =
     let left = c.rounds.invariant.left in
     let some : suc (a.times - 1) ≡ a.times = omega arith in
     c.first_among.ensures ∙ ap (λ ps. find p (unrolled ps)) c.as_slice.ensures.value
-    ∙ sym (find_copies p (a.times - 1) (unrolled a.parts.items)) ∙ ap (λ n. find p (copies n (unrolled a.parts.items))) some
+    ∙ sym (find_copies p (a.times - 1) (unrolled a.parts.items)) ∙ ap (λ n. find p (repeat n (unrolled a.parts.items))) some
     ∙ ap (λ (r : Round). find p r.all) c.rounds.view_is ∙ ap (λ q. find p (words_of q)) (sym c.in-Repeat.is)
 
 -- from a place on, the first is one of the part there, or of those behind it

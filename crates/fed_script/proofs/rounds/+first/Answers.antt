@@ -1,6 +1,6 @@
 -- The next word is that of the part at the place.
 use Rattle.std.proofs.Common.{suc, drop, ◌++◌}
-use Rattle.fed_script.specs.Round.{copies}
+use Rattle.std.specs.List.{repeat}
 use Rattle.fed_script.specs.Rounds.{unrolled, rest_of}
 use Rattle.fed_script.proofs.Lists.{first_append}
 use Rattle.fed_script.proofs.Parts.{rest_from_at}
@@ -12,5 +12,5 @@ Rounds::first-returns t c =
     let p = c.index.result.now in
     let behind = unrolled (drop (suc a.place) a.parts.items) in
     rw (← c.self.view_is) (rw (rest_from_at a.place a.parts.items p c.self.invariant.place c.index.ensures)
-    (first_append (rest_of p ++ behind) (copies a.left (unrolled a.parts.items)) c.first.result.now
+    (first_append (rest_of p ++ behind) (repeat a.left (unrolled a.parts.items)) c.first.result.now
     (first_append (rest_of p) behind c.first.result.now c.first.ensures)))

@@ -3,7 +3,7 @@ use Rattle.std.proofs.Common.{◌≡◌, ◌+◌, ◌≤◌, suc, length, List, 
 use Rattle.std.specs.Prelude.{slice_set}
 use Rattle.std.proofs.lemmas.List.{length-set}
 use Rattle.fed_script.specs.declared.word.Word.{Word}
-use Rattle.fed_script.specs.Round.{copies}
+use Rattle.std.specs.List.{repeat}
 use Rattle.fed_script.specs.Rounds.{unrolled}
 use Rattle.fed_script.proofs.Parts.{unrolled_set, others_set, all_set, others_of_all, goes_on, begins, ends, round, no_copies}
 use Rattle.fed_script.proofs.rounds.+pass.Goals as goal
@@ -26,7 +26,7 @@ Rounds::pass-returns-then-not-pass t c =
     rw (← c.self.view_is) (
       passes.0,
       goes_on a.place a.left a.parts.items p q passes.0 c.self.invariant.place c.index_mut.ensures.value passes.1 passes.2,
-      ap (copies a.times) (unrolled_set a.place a.parts.items p q c.index_mut.ensures.value passes.2),
+      ap (repeat a.times) (unrolled_set a.place a.parts.items p q c.index_mut.ensures.value passes.2),
     )
 
 pub Rounds::pass-invariant_of-self-then-self-len : goal.Rounds::pass-invariant_of-self-then-self-len
@@ -49,7 +49,7 @@ Rounds::pass-returns-then-self-len t c =
     rw (← c.self.view_is) (
       passes.0,
       rw add-one (begins a.place a.left a.parts.items p q passes.0 c.self.invariant.place c.index_mut.ensures.value passes.1 passes.3 c.self.invariant.fresh passes.2),
-      ap (copies a.times) (unrolled_set a.place a.parts.items p q c.index_mut.ensures.value passes.3),
+      ap (repeat a.times) (unrolled_set a.place a.parts.items p q c.index_mut.ensures.value passes.3),
     )
 
 pub Rounds::pass-invariant_of-self-then-self-gt0 : goal.Rounds::pass-invariant_of-self-then-self-gt0
@@ -75,8 +75,8 @@ Rounds::pass-returns-then-self-gt0 t c =
     rw (← c.self.view_is) (
       passes.0,
       ends a.place a.left a.parts.items p passes.0 c.self.invariant.place last c.index_mut.ensures.value passes.1
-          ∙ ap (λ (ws : List Word). passes.0 ∷ ws) (sym (round a.left (slice_set a.parts.items a.place q) (omega arith) fresh ∙ ap (copies a.left) same)),
-      ap (copies a.times) same,
+          ∙ ap (λ (ws : List Word). passes.0 ∷ ws) (sym (round a.left (slice_set a.parts.items a.place q) (omega arith) fresh ∙ ap (repeat a.left) same)),
+      ap (repeat a.times) same,
     )
 
 pub Rounds::pass-invariant_of-self-2 : goal.Rounds::pass-invariant_of-self-2
@@ -103,7 +103,7 @@ Rounds::pass-returns t c =
     rw (← c.self.view_is) (
       passes.0,
       ends a.place a.left a.parts.items p passes.0 c.self.invariant.place last c.index_mut.ensures.value passes.1
-          ∙ ap (λ (ws : List Word). passes.0 ∷ ws) (ap (λ n. copies n (unrolled a.parts.items)) none ∙ no_copies (unrolled a.parts.items)),
+          ∙ ap (λ (ws : List Word). passes.0 ∷ ws) (ap (λ n. repeat n (unrolled a.parts.items)) none ∙ no_copies (unrolled a.parts.items)),
       round a.times (slice_set a.parts.items a.place q) (omega arith) fresh,
-      ap (copies a.times) same,
+      ap (repeat a.times) same,
     )

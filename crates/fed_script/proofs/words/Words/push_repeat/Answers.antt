@@ -6,7 +6,7 @@ use Rattle.std.specs.Vec.{vec_len}
 use Rattle.fed_script.specs.declared.word.Word.{Word}
 use Rattle.fed_script.specs.declared.rounds.Part.{Part}
 use Rattle.fed_script.specs.declared.rounds.Part.TheVariants.{Repeat}
-use Rattle.fed_script.specs.Round.{copies}
+use Rattle.std.specs.List.{repeat}
 use Rattle.fed_script.specs.Rounds.{unrolled, AreFresh}
 use Rattle.fed_script.proofs.Counts.{min_sum, min_times}
 use Rattle.fed_script.specs.Script.{KeepTimes}
@@ -21,13 +21,13 @@ no_more words more none = sym (append-nil words) ∙ ap (λ (ws : List Word). wo
 pub returns-then-times-eq0-clause-ok : goal.returns-then-times-eq0-clause-ok
 returns-then-times-eq0-clause-ok c = elim c.then-times-eq0.branch [
   | then-times-eq0-via-then-times-eq0 w ↦
-      no_more c.args.self.now (copies c.args.times c.args.body) (ap (λ n. copies n c.args.body) w.if-times-eq0.true ∙ no_copies c.args.body)
+      no_more c.args.self.now (repeat c.args.times c.args.body) (ap (λ n. repeat n c.args.body) w.if-times-eq0.true ∙ no_copies c.args.body)
   | then-times-eq0-via-else-times-eq0+then-is_empty w ↦
       let parts = c.body.inside.parts in
       let zero_len = eqb-true (vec_len parts) 0 (sym w.is_empty.ensures ∙ w.if-is_empty.true) in
       let none : parts.items ≡ [] = nil_from_length parts.items (omega (arith, parts.ok.0)) in
       let no_body : c.args.body ≡ [] = sym c.body.view_is ∙ ap unrolled none in
-      no_more c.args.self.now (copies c.args.times c.args.body) (ap (λ (ws : List Word). copies c.args.times ws) no_body ∙ copies_of_none c.args.times)
+      no_more c.args.self.now (repeat c.args.times c.args.body) (ap (λ (ws : List Word). repeat c.args.times ws) no_body ∙ copies_of_none c.args.times)
 ]
 
 pub invariant_of-self-2 : goal.invariant_of-self-2
@@ -49,6 +49,6 @@ invariant_of-self-2 c =
     record {
       fresh = subst AreFresh (sym more) (fresh_push parts part c.self.invariant.fresh c.of.ensures.rest);
       times = subst KeepTimes (sym (ap unrolled more ∙ unrolled_push parts part ∙ ap (λ (ws : List Word). unrolled parts ++ ws) c.of.ensures.all))
-          (keep_times_append (unrolled parts) (copies c.args.times body) c.self.invariant.times (keep_times_copies c.args.times body c.body.invariant.times));
+          (keep_times_append (unrolled parts) (repeat c.args.times body) c.self.invariant.times (keep_times_copies c.args.times body c.body.invariant.times));
       count = counted ∙ ap (λ ps. min (length (unrolled ps)) (2 ^ 64 - 1)) (sym more);
     }
