@@ -8,7 +8,7 @@ use Rattle.std.specs.List.{filter, AllWithin}
 use Rattle.std.specs.List.Sorted.{IsPartitionedBy}
 use Rattle.std.proofs.lemmas.Bool.{cases_Bool, true≢false, false≢true, not-true, not-false}
 use Rattle.std.proofs.lemmas.Bool.Decides.{nat_tests}
-use Rattle.hel_lists.specs.Members.{IsIn, Each}
+use Rattle.hel_lists.specs.Members.{Each}
 use Rattle.hel_lists.proofs.Members.{at_in, in_filter, filter_holds, filter_fails}
 use Rattle.helics_time.specs.Stamp.{At, IsDue, at_most}
 use Rattle.due_queue.specs.Item.{Parcel, is_due}

@@ -1,12 +1,11 @@
 -- Climbing from a node towards the root.
-use Rattle.std.proofs.Common.{◌≡◌, ◌≢◌, inl, inr, ℕ, ◌<◌, ◌≤◌, Bool, true, false, List, arith, refl, sym, ◌∙◌, ap, subst}
-use Rattle.std.specs.Prelude.{◌==◌, if◌then◌else◌}
-use Rattle.std.proofs.lemmas.Bool.{eqb-true, ne_eqb, cases_Bool, true≢false}
-use Rattle.tree_facts.specs.Tree.{parent, IsTree, over, IsChild, Beside, hop}
-use Rattle.tree_facts.specs.Hops.{next_hop_of, node_after}
-use Rattle.tree_facts.specs.declared.hops.Hop.{Hop}
+use Rattle.std.proofs.Common.{◌≡◌, ◌≢◌, inl, inr, ℕ, ◌<◌, Bool, true, false, List, sym, ◌∙◌, ap}
+use Rattle.std.specs.Prelude.{if◌then◌else◌}
+use Rattle.std.proofs.lemmas.Bool.{eqb-true, ne_eqb, cases_Bool}
+use Rattle.tree_facts.specs.Tree.{parent, IsTree, over, IsChild, hop}
+use Rattle.tree_facts.specs.Hops.{next_hop_of}
 use Rattle.tree_facts.specs.declared.hops.Hop.TheVariants.{Here, Up, Child}
-use Rattle.tree_facts.proofs.Paths.{over_cases, over_parent, over_self, over_root, over_trans, over_at_most, over_up}
+use Rattle.tree_facts.proofs.Paths.{over_cases, over_parent, over_self, over_root, over_trans}
 use Rattle.tree_facts.proofs.Cuts.{hop_only, hop_up, side_down}
 
 -- on the way from `to` up to `at`, itself included, `from` doesn't stand

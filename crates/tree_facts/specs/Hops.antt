@@ -1,5 +1,5 @@
 -- The next node on the way through a tree.
-use Rattle.std.specs.Prelude.{ℕ, ◌≡◌, ◌==◌, List, if◌then◌else◌}
+use Rattle.std.specs.Prelude.{ℕ, ◌==◌, List, if◌then◌else◌}
 use Rattle.tree_facts.specs.Tree.{parent, over, hop}
 use Rattle.tree_facts.specs.declared.hops.Hop.{Hop}
 use Rattle.tree_facts.specs.declared.hops.Hop.TheVariants.{Here, Up, Child}

@@ -1,4 +1,4 @@
-use Rattle.std.proofs.Common.{◌<◌, ◌≤◌, ◌≡◌, arith}
+use Rattle.std.proofs.Common.{◌<◌, ◌≤◌, arith}
 use Rattle.tree_facts.specs.Tree.{parent}
 use Rattle.tree_facts.proofs.Climb.{starts, climbs_on, found_child, leads_up}
 use Rattle.tree_facts.proofs.hops.next_hop.Goals as goal

@@ -1,4 +1,4 @@
-use Rattle.std.proofs.Common.{◌≡◌, ◌≤◌}
+use Rattle.std.proofs.Common.{◌≤◌}
 use Rattle.tree_facts.proofs.Climb.{IsClimbed}
 use Rattle.tree_facts.proofs.hops.next_hop.Given as goal
 
