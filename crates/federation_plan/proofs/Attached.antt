@@ -1,8 +1,7 @@
 -- What stands at an interface, once those that name it are put there one after another.
-use Rattle.std.proofs.Common.{◌≡◌, ◌≢◌, ◌⊎◌, inl, inr, ℕ, zero, suc, ◌+◌, ◌-◌, ◌<◌, ◌≤◌, Bool, true, false, List, [], ◌∷◌, ◌++◌, length, get_or, take, drop, drop-cons, arith, refl, sym, ◌∙◌, ap, subst, Option, Some, None, append_assoc, append-nil, length-append, eq-eqb, map}
-use Rattle.std.specs.Prelude.{if◌then◌else◌, ◌||◌, ◌&&◌, nat_eq, slice_get}
-use Rattle.std.specs.List.{list_any, filter}
-use Rattle.std.proofs.lemmas.Bool.{cases_Bool, cases_lt, cases_eq, true≢false, and_from, and_parts, eqb-true}
+use Rattle.std.proofs.Common.{◌≡◌, ◌⊎◌, inl, inr, ℕ, ◌+◌, ◌-◌, ◌<◌, ◌≤◌, Bool, true, false, List, [], ◌∷◌, ◌++◌, length, get_or, take, drop, arith, refl, sym, ◌∙◌, ap, subst, Option, Some, append_assoc, append-nil, length-append, eq-eqb}
+use Rattle.std.specs.Prelude.{if◌then◌else◌, ◌||◌, nat_eq, slice_get}
+use Rattle.std.proofs.lemmas.Bool.{cases_Bool, cases_lt, true≢false, and_from, and_parts, eqb-true}
 use Rattle.std.proofs.lemmas.List.Folds.{list_any_more}
 use Rattle.std.proofs.lemmas.Option.{slice_get-get_or, slice_get_past}
 use Rattle.interface_names.specs.declared.records.FederateRecord.{FederateRecord}
@@ -10,8 +9,8 @@ use Rattle.hel_lists.proofs.Members.{filter_holds, filter_fails}
 use Rattle.std.proofs.Math.Seq.{get_or-append_seam}
 use Rattle.hel_lists.specs.Members.{IsIn}
 use Rattle.hel_values.specs.declared.EndRef.{EndRef}
-use Rattle.federation_plan.specs.Interfaces.{Interface, one_in, interfaces_in, interfaces_from, same_ref, is_ref, name_ref, naming, refs_naming}
-use Rattle.federation_plan.specs.Tables.{row_at, entry, ends_with, with_last}
+use Rattle.federation_plan.specs.Interfaces.{Interface, one_in, interfaces_in, interfaces_from, same_ref, is_ref, name_ref, refs_naming}
+use Rattle.federation_plan.specs.Tables.{entry, ends_with, with_last}
 use Rattle.federation_plan.proofs.Lists.{at_in, in_append}
 use Rattle.federation_plan.proofs.Named.{rest_in, rest_from, none_in, none_from}
 
@@ -151,9 +150,9 @@ naming_of : {A : Type 0} (meaning : List ℕ → Option EndRef) (names : A → L
     IsIn q (refs_naming meaning names (interfaces_in owner f n xs) r) → q.fed ≡ f
 naming_of meaning names owner f n [] r q among = absurd among
 naming_of meaning names owner f n (x ∷ xs) r q among =
-    elim (in_append _ _ q (subst (IsIn q) (naming_cons meaning names r (one_in owner f n x) (interfaces_in owner f (suc n) xs)) among)) [
+    elim (in_append _ _ q (subst (IsIn q) (naming_cons meaning names r (one_in owner f n x) (interfaces_in owner f (n + 1) xs)) among)) [
       | inl here ↦ ap (λ (p : EndRef). p.fed) (in_either (name_ref meaning (names x) r) q _ here)
-      | inr later ↦ naming_of meaning names owner f (suc n) xs r q later
+      | inr later ↦ naming_of meaning names owner f (n + 1) xs r q later
     ]
 
 naming_append : {A : Type 0} (meaning : List ℕ → Option EndRef) (names : A → List (List ℕ)) (is js : List (Interface A)) (r : EndRef) →

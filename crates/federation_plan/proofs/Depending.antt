@@ -1,9 +1,8 @@
 -- The links that interfaces make are the dependencies.
-use Rattle.std.proofs.Common.{◌≡◌, ◌≢◌, ◌⊎◌, inl, inr, ℕ, zero, suc, ◌+◌, ◌<◌, ◌≤◌, Bool, true, false, List, [], ◌∷◌, ◌++◌, length, get_or, arith, refl, sym, ◌∙◌, ap, subst, Option, Some, None, map, eq-eqb}
-use Rattle.std.specs.Prelude.{if◌then◌else◌, ◌||◌, ◌&&◌, not, nat_eq, nat_lt, is_none, unwrap_or}
-use Rattle.std.specs.List.{list_any, filter_map, cons_option}
-use Rattle.std.specs.Option.{option_or}
-use Rattle.std.proofs.lemmas.Bool.{cases_Bool, cases_lt, true≢false, or_cases, or_left, or_right, and_from, and_parts, eqb-true, lt-ltb, ltb-true}
+use Rattle.std.proofs.Common.{◌≡◌, ◌⊎◌, inl, inr, ℕ, ◌<◌, Bool, true, false, List, [], ◌∷◌, length, arith, refl, sym, ◌∙◌, ap, subst, Option, Some, None, eq-eqb}
+use Rattle.std.specs.Prelude.{if◌then◌else◌, ◌||◌, ◌&&◌, not, nat_eq, is_none, unwrap_or}
+use Rattle.std.specs.List.{list_any, filter_map, cons_option, last_or}
+use Rattle.std.proofs.lemmas.Bool.{cases_Bool, true≢false, or_cases, or_left, or_right, and_from, and_parts, eqb-true, lt-ltb, ltb-true}
 use Rattle.hel_lists.specs.Members.{IsIn}
 use Rattle.hel_lists.proofs.Members.{in_map, in_filter}
 use Rattle.hel_values.specs.declared.EndRef.{EndRef}
@@ -12,33 +11,29 @@ use Rattle.interface_names.specs.declared.records.FilterKind.{FilterKind}
 use Rattle.interface_names.specs.declared.records.FilterKind.TheVariants.{Delay, Drop, Reroute}
 use Rattle.interface_names.specs.declared.records.FederateRecord.{FederateRecord}
 use Rattle.interface_names.specs.Filter.{FilterTerms}
-use Rattle.message_filters.specs.declared.filter.Filter.{Filter}
 use Rattle.message_filters.specs.Filter.{reroute_of}
-use Rattle.message_filters.specs.Chain.{last_of}
-use Rattle.federation_plan.specs.declared.refusal.PlanRefusal.{PlanRefusal}
 use Rattle.federation_plan.specs.declared.refusal.PlanRefusal.TheVariants.{FilterTarget}
-use Rattle.federation_plan.specs.Interfaces.{Interface, one_in, same_ref, is_ref, is_of, name_ref, name_fed, naming, endpoint_of, publication_of, inputs, filters, endpoints, federate_at, endpoint_at, blank_endpoint, IsEndpoint}
-use Rattle.federation_plan.specs.Chains.{allows, reroutes, filter_of, sources, source_chain}
-use Rattle.federation_plan.specs.Depends.{last_end, last_reroute, reaches_by, reaches, by_value, by_message, depends}
+use Rattle.federation_plan.specs.Interfaces.{Interface, is_ref, is_of, name_ref, name_fed, naming, endpoint_of, publication_of, inputs, filters, endpoints, federate_at, endpoint_at, blank_endpoint, IsEndpoint}
+use Rattle.federation_plan.specs.Chains.{reroutes, filter_of, sources, source_chain}
+use Rattle.federation_plan.specs.Depends.{last_reroute, reaches_by, reaches, by_value, by_message, depends}
 use Rattle.federation_plan.specs.Links.{takes, sends, sends_to, is_sender, hears, has_endpoint}
-use Rattle.federation_plan.specs.Refusal.{first_some, target_at, reroute_refusal, named_refusal}
+use Rattle.federation_plan.specs.Refusal.{target_at, reroute_refusal}
 use Rattle.dependency_paths.specs.Paths.{AreAncestors}
 use Rattle.federation_plan.proofs.Drafts.{same_meaning}
 use Rattle.federation_plan.proofs.Lists.{any_to, any_from, same_test}
 use Rattle.federation_plan.proofs.Accepted.{IsAccepted, none_asks, both_none}
 use Rattle.federation_plan.proofs.Attached.{same_itself, same_is}
 use Rattle.federation_plan.proofs.Joined.{or_assoc}
-use Rattle.federation_plan.proofs.Named.{federate_within}
 use Rattle.federation_plan.proofs.Places.{stands_at, among_all, endpoints_known}
 
 -- the last of a list is a member
-last_in : (rs : List EndRef) (r : EndRef) → last_end rs ≡ Some r → IsIn r rs
+last_in : (rs : List EndRef) (r : EndRef) → last_or None rs ≡ Some r → IsIn r rs
 last_in [] r is = absurd (cc)
-last_in (x ∷ xs) r is = go x xs (let same : last_of x xs ≡ r = cc in same)
+last_in (x ∷ xs) r is = go x xs is
   where
-    go : (x : EndRef) (xs : List EndRef) → last_of x xs ≡ r → IsIn r (x ∷ xs)
-    go x [] same = inl (sym same)
-    go x (y ∷ ys) same = inr (go y ys same)
+    go : (x : EndRef) (xs : List EndRef) → last_or (Some x) xs ≡ Some r → IsIn r (x ∷ xs)
+    go x [] is = inl (let same : r ≡ x = cc in same)
+    go x (y ∷ ys) is = inr (go y ys is)
 
 -- a member of what a test gives comes from a member
 pub from_member : {A B : Type 0} (h : A → Option B) (xs : List A) (y : B) → IsIn y (filter_map h xs) → (x : A) × IsIn x xs × (h x ≡ Some y)

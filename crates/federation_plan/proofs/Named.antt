@@ -1,7 +1,7 @@
 -- Lists of interfaces, and the first of a name among them.
-use Rattle.std.proofs.Common.{◌≡◌, ◌⊎◌, inl, inr, ℕ, zero, suc, ◌+◌, ◌<◌, ◌≤◌, Bool, true, false, List, [], ◌∷◌, ◌++◌, length, get_or, drop, drop-cons, arith, refl, sym, ◌∙◌, ap, subst, Option, Some, None, add-one, cond}
-use Rattle.std.specs.Prelude.{if◌then◌else◌, is_some}
-use Rattle.std.specs.Option.{option_or}
+use Rattle.std.proofs.Common.{◌≡◌, inl, inr, ℕ, suc, ◌+◌, ◌<◌, ◌≤◌, Bool, true, false, List, [], ◌∷◌, ◌++◌, length, get_or, drop, drop-cons, arith, refl, sym, ◌∙◌, ap, Option, Some, None, add-one, cond}
+use Rattle.std.specs.Prelude.{if◌then◌else◌, is_some, find}
+use Rattle.std.specs.Option.{option_or, option_map}
 use Rattle.std.specs.Str.{bytes_eq}
 use Rattle.std.proofs.lemmas.List.{drop_all, get_or_past}
 use Rattle.std.proofs.lemmas.Bool.{cases_Bool, cases_lt, true≢false}
@@ -27,15 +27,15 @@ pub rest_in : {A : Type 0} (owner : List ℕ) (f n : ℕ) (xs : List A) (d : A) 
     interfaces_in owner f n (drop n xs) ≡ one_in owner f n (get_or xs n d) ∷ interfaces_in owner f (n + 1) (drop (n + 1) xs)
 rest_in owner f n xs d below =
     ap (λ (l : List _). interfaces_in owner f n l) (drop-cons xs n d below)
-    ∙ ap (λ (k : ℕ). one_in owner f n (get_or xs n d) ∷ interfaces_in owner f k (drop k xs)) (sym (add-one n))
+    ∙ ap (λ (k : ℕ). one_in owner f n (get_or xs n d) ∷ interfaces_in owner f (n + 1) (drop k xs)) (sym (add-one n))
 
 -- those of the federates from number f on are those of that one and those of the ones behind it
 pub rest_from : {A : Type 0} (kind : FederateRecord → List A) (f : ℕ) (feds : List FederateRecord) (x : FederateRecord) → f < length feds → x ≡ get_or feds f x →
     interfaces_from kind f (drop f feds) ≡ interfaces_in x.name f 0 (kind x) ++ interfaces_from kind (f + 1) (drop (f + 1) feds)
 rest_from kind f feds x below at =
     ap (λ (l : List FederateRecord). interfaces_from kind f l) (drop-cons feds f x below)
-    ∙ ap (λ (y : FederateRecord). interfaces_in y.name f 0 (kind y) ++ interfaces_from kind (suc f) (drop (suc f) feds)) (sym at)
-    ∙ ap (λ (k : ℕ). interfaces_in x.name f 0 (kind x) ++ interfaces_from kind k (drop k feds)) (sym (add-one f))
+    ∙ ap (λ (y : FederateRecord). interfaces_in y.name f 0 (kind y) ++ interfaces_from kind (f + 1) (drop (suc f) feds)) (sym at)
+    ∙ ap (λ (k : ℕ). interfaces_in x.name f 0 (kind x) ++ interfaces_from kind (f + 1) (drop k feds)) (sym (add-one f))
 
 -- none are left
 pub none_from : {A : Type 0} (kind : FederateRecord → List A) (f : ℕ) (feds : List FederateRecord) → length feds ≤ f → interfaces_from kind f (drop f feds) ≡ []
@@ -44,17 +44,21 @@ none_from kind f feds past = ap (λ (l : List FederateRecord). interfaces_from k
 pub none_in : {A : Type 0} (owner : List ℕ) (f n : ℕ) (xs : List A) → length xs ≤ n → interfaces_in owner f n (drop n xs) ≡ []
 none_in owner f n xs past = ap (λ (l : List _). interfaces_in owner f n l) (drop_all n xs past)
 
+-- the first of a name, by the test of the first interface
+abbrev pub by_test : {A : Type 0} → Interface A → (Interface A → List ℕ) → List ℕ → List (Interface A) → Bool → Option EndRef
+by_test i name_of name is b = option_map (λ j. j.ref) (cond b (Some i) (find (λ j. bytes_eq name (name_of j)) is))
+
 -- the first of a name among two lists
 pub named_append : {A : Type 0} (name_of : Interface A → List ℕ) (name : List ℕ) (is js : List (Interface A)) →
     named name_of name (is ++ js) ≡ option_or (named name_of name is) (named name_of name js)
 named_append name_of name [] js = refl
 named_append name_of name (i ∷ is) js = elim (cases_Bool (bytes_eq name (name_of i))) [
   | inl same ↦
-      ap (λ (b : Bool). if b then Some i.ref else named name_of name (is ++ js)) same
-      ∙ sym (ap (λ (b : Bool). option_or (if b then Some i.ref else named name_of name is) (named name_of name js)) same)
+      ap (λ (b : Bool). by_test i name_of name (is ++ js) b) same
+      ∙ sym (ap (λ (b : Bool). option_or (by_test i name_of name is b) (named name_of name js)) same)
   | inr other ↦
-      ap (λ (b : Bool). if b then Some i.ref else named name_of name (is ++ js)) other ∙ named_append name_of name is js
-      ∙ sym (ap (λ (b : Bool). option_or (if b then Some i.ref else named name_of name is) (named name_of name js)) other)
+      ap (λ (b : Bool). by_test i name_of name (is ++ js) b) other ∙ named_append name_of name is js
+      ∙ sym (ap (λ (b : Bool). option_or (by_test i name_of name is b) (named name_of name js)) other)
 ]
 
 pub named_cons : {A : Type 0} (name_of : Interface A → List ℕ) (name : List ℕ) (i : Interface A) (is : List (Interface A)) →
@@ -62,10 +66,10 @@ pub named_cons : {A : Type 0} (name_of : Interface A → List ℕ) (name : List 
 named_cons name_of name i is = elim (cases_Bool (bytes_eq name (name_of i))) [
   | inl same ↦
       ap (λ (b : Bool). option_or (if b then Some i.ref else None) (named name_of name is)) same
-      ∙ sym (ap (λ (b : Bool). if b then Some i.ref else named name_of name is) same)
+      ∙ sym (ap (λ (b : Bool). by_test i name_of name is b) same)
   | inr other ↦
       ap (λ (b : Bool). option_or (if b then Some i.ref else None) (named name_of name is)) other
-      ∙ sym (ap (λ (b : Bool). if b then Some i.ref else named name_of name is) other)
+      ∙ sym (ap (λ (b : Bool). by_test i name_of name is b) other)
 ]
 
 -- a table that has the names before, and now one more

@@ -1,15 +1,13 @@
 -- The interfaces of a federation by their references.
-use Rattle.std.proofs.Common.{◌≡◌, ◌≢◌, ◌⊎◌, inl, inr, ℕ, zero, suc, ◌+◌, ◌<◌, ◌≤◌, Bool, true, false, List, [], ◌∷◌, ◌++◌, length, get_or, arith, refl, sym, ◌∙◌, ap, subst, Option, Some, None}
-use Rattle.std.specs.Prelude.{if◌then◌else◌}
+use Rattle.std.proofs.Common.{◌≡◌, inl, inr, ℕ, zero, suc, ◌+◌, ◌<◌, Bool, true, List, [], ◌∷◌, length, get_or, arith, refl, sym, ◌∙◌, ap, subst, Some}
 use Rattle.std.specs.Str.{bytes_eq}
-use Rattle.std.proofs.lemmas.Bool.{cases_Bool, cases_lt, true≢false}
-use Rattle.std.proofs.lemmas.List.{get_or_default}
+use Rattle.std.proofs.lemmas.Bool.{cases_Bool}
 use Rattle.hel_lists.specs.Members.{IsIn}
 use Rattle.hel_values.specs.declared.EndRef.{EndRef}
 use Rattle.interface_names.specs.declared.records.FederateRecord.{FederateRecord}
 use Rattle.federation_plan.specs.Interfaces.{Interface, one_in, interfaces_in, interfaces_from, named, federate_at, blank_federate, publication_of, endpoint_of, publications, endpoints, pub_name, end_name, IsPublication, IsEndpoint, ArePublications, AreEndpoints}
 use Rattle.federation_plan.proofs.Lists.{in_append, append_left, append_right}
-use Rattle.federation_plan.proofs.Named.{federate_within}
+use Rattle.federation_plan.proofs.Named.{by_test, federate_within}
 
 -- an interface stands where its reference says
 pub record StandsAt {A : Type 0} (kind : FederateRecord → List A) (feds : List FederateRecord) (i : Interface A) : Type 0 where
@@ -38,9 +36,9 @@ stands_in {A} owner f n (x ∷ xs) i among = elim among [
     item = λ d. ap (λ (j : Interface A). j.item) here;
   }
   | inr later ↦
-      let rest = stands_in owner f (suc n) xs i later in
+      let rest = stands_in owner f (n + 1) xs i later in
       let below : rest.place < length xs = rest.below in
-      let index : i.ref.index ≡ suc n + rest.place = rest.index in
+      let index : i.ref.index ≡ n + 1 + rest.place = rest.index in
       record { place = suc rest.place; below = omega arith; fed = rest.fed; index = omega arith; named = rest.named; item = rest.item }
 ]
 
@@ -53,7 +51,7 @@ record StandsFrom {A : Type 0} (kind : FederateRecord → List A) (f : ℕ) (fed
 
 stands_from : {A : Type 0} (kind : FederateRecord → List A) (f : ℕ) (feds : List FederateRecord) (i : Interface A) → IsIn i (interfaces_from kind f feds) → StandsFrom kind f feds i
 stands_from kind f [] i among = absurd among
-stands_from {A} kind f (x ∷ xs) i among = elim (in_append (interfaces_in x.name f 0 (kind x)) (interfaces_from kind (suc f) xs) i among) [
+stands_from {A} kind f (x ∷ xs) i among = elim (in_append (interfaces_in x.name f 0 (kind x)) (interfaces_from kind (f + 1) xs) i among) [
   | inl here ↦
       let is = stands_in x.name f 0 (kind x) i here in
       record {
@@ -63,9 +61,9 @@ stands_from {A} kind f (x ∷ xs) i among = elim (in_append (interfaces_in x.nam
         at = λ d. subst (λ (g : ℕ). StandsIn x.name g 0 (kind x) i) (sym is.fed) is;
       }
   | inr later ↦
-      let rest = stands_from kind (suc f) xs i later in
+      let rest = stands_from kind (f + 1) xs i later in
       let below : rest.place < length xs = rest.below in
-      let fed : i.ref.fed ≡ suc f + rest.place = rest.fed in
+      let fed : i.ref.fed ≡ f + 1 + rest.place = rest.fed in
       record { place = suc rest.place; below = omega arith; fed = omega arith; at = rest.at }
 ]
 
@@ -87,8 +85,8 @@ among_in : {A : Type 0} (owner : List ℕ) (f n k : ℕ) (xs : List A) (d : A) �
 among_in owner f n k [] d below = absurd (omega arith)
 among_in {A} owner f n zero (x ∷ xs) d below = inl (ap (λ (m : ℕ). one_in owner f m x) (let e : n + 0 ≡ n = omega arith in e))
 among_in {A} owner f n (suc k) (x ∷ xs) d below =
-    inr (subst (λ (m : ℕ). IsIn (one_in owner f m (get_or xs k d)) (interfaces_in owner f (suc n) xs)) (let e : suc n + k ≡ n + suc k = omega arith in e)
-    (among_in owner f (suc n) k xs d (omega arith)))
+    inr (subst (λ (m : ℕ). IsIn (one_in owner f m (get_or xs k d)) (interfaces_in owner f (n + 1) xs)) (let e : n + 1 + k ≡ n + suc k = omega arith in e)
+    (among_in owner f (n + 1) k xs d (omega arith)))
 
 among_from : {A : Type 0} (kind : FederateRecord → List A) (f k : ℕ) (feds : List FederateRecord) (i : Interface A) (d : FederateRecord) → k < length feds →
     IsIn i (interfaces_in (get_or feds k d).name (f + k) 0 (kind (get_or feds k d))) → IsIn i (interfaces_from kind f feds)
@@ -96,8 +94,8 @@ among_from kind f k [] i d below among = absurd (omega arith)
 among_from {A} kind f zero (x ∷ xs) i d below among =
     append_left _ _ i (subst (λ (m : ℕ). IsIn i (interfaces_in x.name m 0 (kind x))) (let e : f + 0 ≡ f = omega arith in e) among)
 among_from {A} kind f (suc k) (x ∷ xs) i d below among =
-    append_right (interfaces_in x.name f 0 (kind x)) _ i (among_from kind (suc f) k xs i d (omega arith)
-    (subst (λ (m : ℕ). IsIn i (interfaces_in (get_or xs k d).name m 0 (kind (get_or xs k d)))) (let e : f + suc k ≡ suc f + k = omega arith in e) among))
+    append_right (interfaces_in x.name f 0 (kind x)) _ i (among_from kind (f + 1) k xs i d (omega arith)
+    (subst (λ (m : ℕ). IsIn i (interfaces_in (get_or xs k d).name m 0 (kind (get_or xs k d)))) (let e : f + suc k ≡ f + 1 + k = omega arith in e) among))
 
 pub among_all : {A : Type 0} (kind : FederateRecord → List A) (feds : List FederateRecord) (r : EndRef) (d : A) → kind blank_federate ≡ [] → r.index < length (kind (federate_at feds r.fed)) →
     IsIn (one_in (federate_at feds r.fed).name r.fed r.index (get_or (kind (federate_at feds r.fed)) r.index d)) (interfaces_from kind 0 feds)
@@ -121,10 +119,10 @@ pub named_is : {A : Type 0} (name_of : Interface A → List ℕ) (name : List �
 named_is name_of name [] r found = absurd (cc)
 named_is {A} name_of name (i ∷ is) r found = elim (cases_Bool (bytes_eq name (name_of i))) [
   | inl holds ↦
-      let here : Some i.ref ≡ Some r = sym (ap (λ (b : Bool). if b then Some i.ref else named name_of name is) holds) ∙ found in
+      let here : Some i.ref ≡ Some r = sym (ap (λ (b : Bool). by_test i name_of name is b) holds) ∙ found in
       record { one = i; among = inl refl; called = holds; same = cc }
   | inr fails ↦
-      let rest = named_is name_of name is r (sym (ap (λ (b : Bool). if b then Some i.ref else named name_of name is) fails) ∙ found) in
+      let rest = named_is name_of name is r (sym (ap (λ (b : Bool). by_test i name_of name is b) fails) ∙ found) in
       record { one = rest.one; among = inr rest.among; called = rest.called; same = rest.same }
 ]
 

@@ -1,6 +1,6 @@
 -- The last reroute of a chain.
-use Rattle.std.proofs.Common.{◌≡◌, ℕ, ◌+◌, ◌<◌, List, [], ◌∷◌, ◌++◌, length, get_or, take, map, refl, sym, ◌∙◌, ap, Option, Some, None}
-use Rattle.std.specs.List.{filter_map}
+use Rattle.std.proofs.Common.{◌≡◌, ℕ, ◌+◌, ◌<◌, List, [], ◌∷◌, ◌++◌, length, get_or, take, refl, sym, ◌∙◌, ap, Option, Some, None}
+use Rattle.std.specs.List.{last_or}
 use Rattle.std.specs.Option.{option_or}
 use Rattle.std.proofs.lemmas.List.{take_more}
 use Rattle.std.proofs.lemmas.List.Elements.{filter_map-append}
@@ -9,19 +9,14 @@ use Rattle.interface_names.specs.declared.records.FederateRecord.{FederateRecord
 use Rattle.message_filters.specs.declared.filter.Filter.{Filter}
 use Rattle.message_filters.specs.declared.filter.Filter.TheVariants.{Delay, Drop, Reroute}
 use Rattle.message_filters.specs.Filter.{reroute_of}
-use Rattle.message_filters.specs.Chain.{last_of}
 use Rattle.federation_plan.specs.Interfaces.{filter_at}
 use Rattle.federation_plan.specs.Chains.{reroutes, filter_of}
 use Rattle.federation_plan.specs.Tables.{chain_by}
-use Rattle.federation_plan.specs.Depends.{last_end, last_reroute}
+use Rattle.federation_plan.specs.Depends.{last_reroute}
 
-last_pushed : (rs : List EndRef) (r : EndRef) → last_end (rs ++ r ∷ []) ≡ Some r
-last_pushed [] r = refl
-last_pushed (q ∷ qs) r = ap (λ (x : EndRef). Some x) (behind q qs)
-  where
-    behind : (x : EndRef) (xs : List EndRef) → last_of x (xs ++ r ∷ []) ≡ r
-    behind x [] = refl
-    behind x (y ∷ ys) = behind y ys
+last_pushed : (o : Option EndRef) (rs : List EndRef) (r : EndRef) → last_or o (rs ++ r ∷ []) ≡ Some r
+last_pushed o [] r = refl
+last_pushed o (q ∷ qs) r = last_pushed (Some q) qs r
 
 append_none : (rs : List EndRef) → rs ++ [] ≡ rs
 append_none [] = refl
@@ -29,9 +24,9 @@ append_none (r ∷ rs) = ap (λ (l : List EndRef). r ∷ l) (append_none rs)
 
 -- one more filter
 pub last_more : (chain : List Filter) (x : Filter) → last_reroute (chain ++ x ∷ []) ≡ option_or (reroute_of x) (last_reroute chain)
-last_more chain (Delay delay) = ap last_end (filter_map-append reroute_of chain (Delay delay ∷ []) ∙ append_none (reroutes chain))
-last_more chain (Drop per_million seed) = ap last_end (filter_map-append reroute_of chain (Drop per_million seed ∷ []) ∙ append_none (reroutes chain))
-last_more chain (Reroute r) = ap last_end (filter_map-append reroute_of chain (Reroute r ∷ [])) ∙ last_pushed (reroutes chain) r
+last_more chain (Delay delay) = ap (last_or None) (filter_map-append reroute_of chain (Delay delay ∷ []) ∙ append_none (reroutes chain))
+last_more chain (Drop per_million seed) = ap (last_or None) (filter_map-append reroute_of chain (Drop per_million seed ∷ []) ∙ append_none (reroutes chain))
+last_more chain (Reroute r) = ap (last_or None) (filter_map-append reroute_of chain (Reroute r ∷ [])) ∙ last_pushed None (reroutes chain) r
 
 -- the filters of these references up to the next one
 pub refs_more : (meaning : List ℕ → Option EndRef) (feds : List FederateRecord) (refs : List EndRef) (i : ℕ) (d : EndRef) (now next own : Option EndRef) → i < length refs →

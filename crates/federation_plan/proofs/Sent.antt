@@ -1,7 +1,7 @@
 -- What filters make of a message of a plan, and who depends on whom by what is sent.
 use Rattle.std.proofs.Common.{◌≡◌, inl, inr, ℕ, ◌+◌, ◌*◌, ◌<◌, ◌≤◌, true, List, [], ◌∷◌, length, get_or, fold, arith, refl, sym, ◌∙◌, ap, subst, Option, Some, None, eq-eqb}
 use Rattle.std.specs.Prelude.{◌&&◌, nat_eq, sum_by}
-use Rattle.std.specs.List.{filter_map, cons_option, position_from, list_any}
+use Rattle.std.specs.List.{filter_map, cons_option, last_or, position_from, list_any}
 use Rattle.std.specs.Option.{option_map_or}
 use Rattle.std.proofs.lemmas.Bool.{cases_lt, true≢false, or_cases, or_left, or_right, and_from, and_parts, eqb-true}
 use Rattle.std.proofs.lemmas.List.{get_or_past, length-map}
@@ -25,7 +25,7 @@ use Rattle.helics_time.specs.Time.{longest_span}
 use Rattle.message_filters.specs.Limits.{most_filters}
 use Rattle.federation_plan.specs.Interfaces.{Interface, same_ref, name_ref, name_fed, naming, refs_naming, endpoint_of, publication_of, inputs, filters, endpoints, federate_at, blank_federate, blank_filter, blank_endpoint, endpoint_at, IsEndpoint, IsInput, IsPublication}
 use Rattle.federation_plan.specs.Chains.{sources, destinations, filter_of, chain_on, source_chain, destination_chain, later_by, filtered_at, may_send, reroutes}
-use Rattle.federation_plan.specs.Depends.{last_end, reaches_by, reaches, by_value, by_message, depends}
+use Rattle.federation_plan.specs.Depends.{reaches_by, reaches, by_value, by_message, depends}
 use Rattle.federation_plan.specs.Plan.{IsKept, targets_of}
 use Rattle.federation_plan.proofs.Lists.{at_in, any_to, any_from}
 use Rattle.federation_plan.proofs.Named.{federate_within}
@@ -166,13 +166,17 @@ arrives feds from to end sequence delay kept is = first (filtered_of (source_cha
     first (Dropped place) one = let cut = rw one at is in absurd (cc)
     first (Kept mid more) one = let cut = rw one at is in second mid more (filtered_of (destination_chain feds mid) from.fed sequence mid) one refl cut
 
+last_some : (r : EndRef) (rs : List EndRef) → last_or (Some r) rs ≡ Some (last_of r rs)
+last_some r [] = refl
+last_some r (q ∷ qs) = last_some q qs
+
 -- that is an endpoint
 pub end_known : (feds : List FederateRecord) (from to end : EndRef) → IsAccepted feds → IsEndpoint feds to → last_of to (reroutes (source_chain feds from)) ≡ end → IsEndpoint feds end
 end_known feds from to end accepted known is = go (reroutes (source_chain feds from)) refl is
   where
     go : (rs : List EndRef) → reroutes (source_chain feds from) ≡ rs → last_of to rs ≡ end → IsEndpoint feds end
     go [] are is' = subst (IsEndpoint feds) is' known
-    go (r ∷ rs) are is' = last_known feds from end accepted (ap last_end are ∙ ap (λ (x : EndRef). Some x) is')
+    go (r ∷ rs) are is' = last_known feds from end accepted (ap (last_or None) are ∙ last_some r rs ∙ ap (λ (x : EndRef). Some x) is')
 
 -- which the sender reaches
 pub end_reached : (feds : List FederateRecord) (from to end : EndRef) → may_send feds from to ≡ true → last_of to (reroutes (source_chain feds from)) ≡ end →
@@ -181,10 +185,11 @@ end_reached feds from to end may is = go (reroutes (source_chain feds from)) ref
   where
     go : (rs : List EndRef) → reroutes (source_chain feds from) ≡ rs → last_of to rs ≡ end → reaches feds (endpoint_at feds from) (endpoint_at feds end) ≡ true
     go [] are is' =
-        ap (λ (l : List EndRef). reaches_by (endpoint_of feds) (last_end l) (endpoint_at feds from) (endpoint_at feds end)) are
+        ap (λ (l : List EndRef). reaches_by (endpoint_of feds) (last_or None l) (endpoint_at feds from) (endpoint_at feds end)) are
         ∙ subst (λ (r : EndRef). may_send feds from r ≡ true) is' may
     go (r ∷ rs) are is' =
-        ap (λ (l : List EndRef). reaches_by (endpoint_of feds) (last_end l) (endpoint_at feds from) (endpoint_at feds end)) are
+        ap (λ (l : List EndRef). reaches_by (endpoint_of feds) (last_or None l) (endpoint_at feds from) (endpoint_at feds end)) are
+        ∙ ap (λ (o : Option EndRef). reaches_by (endpoint_of feds) o (endpoint_at feds from) (endpoint_at feds end)) (last_some r rs)
         ∙ ap (λ (x : EndRef). same_ref end x) is' ∙ same_itself end
 
 -- ---- dependencies

@@ -1,23 +1,16 @@
 -- Which federates depend on which.
-use Rattle.std.specs.Prelude.{ℕ, Bool, false, nat_eq, nat_lt, ◌&&◌, ◌||◌, length, List, [], ◌∷◌, Option, None, Some, if◌then◌else◌}
-use Rattle.std.specs.List.{list_any}
+use Rattle.std.specs.Prelude.{ℕ, Bool, nat_eq, ◌&&◌, ◌||◌, List, Option, None, Some}
+use Rattle.std.specs.List.{list_any, last_or}
 use Rattle.hel_values.specs.declared.EndRef.{EndRef}
-use Rattle.interface_names.specs.declared.records.InputRecord.{InputRecord}
 use Rattle.interface_names.specs.declared.records.EndRecord.{EndRecord}
 use Rattle.interface_names.specs.declared.records.FederateRecord.{FederateRecord}
 use Rattle.message_filters.specs.declared.filter.Filter.{Filter}
-use Rattle.message_filters.specs.Chain.{last_of}
-use Rattle.federation_plan.specs.Interfaces.{Interface, same_ref, is_of, name_fed, publication_of, endpoint_of, inputs, endpoints, federate_at}
+use Rattle.federation_plan.specs.Interfaces.{Interface, same_ref, name_fed, publication_of, endpoint_of, inputs, endpoints}
 use Rattle.federation_plan.specs.Chains.{allows, reroutes, source_chain}
-
--- the last of a list
-abbrev pub last_end : List EndRef → Option EndRef
-last_end [] = None
-last_end (r ∷ rs) = Some (last_of r rs)
 
 -- the endpoint of the last reroute of a chain
 abbrev pub last_reroute : List Filter → Option EndRef
-last_reroute chain = last_end (reroutes chain)
+last_reroute chain = last_or None (reroutes chain)
 
 -- an endpoint reaches that of the last reroute in its source chain, else all to which it may send
 abbrev pub reaches_by : (List ℕ → Option EndRef) → Option EndRef → Interface EndRecord → Interface EndRecord → Bool

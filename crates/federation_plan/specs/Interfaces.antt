@@ -1,6 +1,7 @@
 -- The interfaces of a federation, and their names.
-use Rattle.std.specs.Prelude.{ℕ, suc, ◌≡◌, ◌<◌, ◌≤◌, Bool, false, nat_eq, ◌&&◌, map, length, List, [], ◌∷◌, ◌++◌, Option, None, Some, if◌then◌else◌, slice_index_or}
-use Rattle.std.specs.List.{list_any, filter}
+use Rattle.std.specs.Prelude.{ℕ, ◌≡◌, ◌<◌, ◌≤◌, Bool, false, nat_eq, ◌&&◌, map, find, length, List, [], Option, None, Some, slice_index_or}
+use Rattle.std.specs.List.{list_any, filter, flat_map, enumerate_from}
+use Rattle.std.specs.Option.{option_map}
 use Rattle.std.specs.Str.{bytes_eq}
 use Rattle.hel_values.specs.declared.EndRef.{EndRef}
 use Rattle.hel_values.specs.declared.ValueKind.TheVariants.{Int}
@@ -27,13 +28,11 @@ one_in owner f n x = record { owner = owner; ref = record { fed = f; index = n }
 
 -- those of federate f, from number n on
 abbrev pub interfaces_in : {A : Type 0} → List ℕ → ℕ → ℕ → List A → List (Interface A)
-interfaces_in owner f n [] = []
-interfaces_in owner f n (x ∷ xs) = one_in owner f n x ∷ interfaces_in owner f (suc n) xs
+interfaces_in owner f n xs = map (λ x. one_in owner f x.0 x.1) (enumerate_from n xs)
 
 -- those of one kind of all federates, from number f on
 abbrev pub interfaces_from : {A : Type 0} → (FederateRecord → List A) → ℕ → List FederateRecord → List (Interface A)
-interfaces_from kind f [] = []
-interfaces_from kind f (fed ∷ feds) = interfaces_in fed.name f 0 (kind fed) ++ interfaces_from kind (suc f) feds
+interfaces_from kind f feds = flat_map (λ fed. interfaces_in fed.1.name fed.0 0 (kind fed.1)) (enumerate_from f feds)
 
 -- all publications, inputs, endpoints and filters, in the order of federates and interfaces
 abbrev pub publications : List FederateRecord → List (Interface PubRecord)
@@ -57,8 +56,7 @@ end_name e = global_name_of e.owner e.item.name e.item.global
 
 -- the first of these interfaces that has the name
 abbrev pub named : {A : Type 0} → (Interface A → List ℕ) → List ℕ → List (Interface A) → Option EndRef
-named name_of name [] = None
-named name_of name (i ∷ is) = if bytes_eq name (name_of i) then Some i.ref else named name_of name is
+named name_of name is = option_map (λ i. i.ref) (find (λ i. bytes_eq name (name_of i)) is)
 
 -- the publication and the endpoint of a name
 unfoldable pub publication_of : List FederateRecord → List ℕ → Option EndRef

@@ -1,5 +1,5 @@
 -- Why a plan isn't made.
-use Rattle.std.specs.Prelude.{ℕ, ◌≡◌, ◌⊎◌, Bool, true, false, nat_lt, ◌||◌, not, is_none, List, [], ◌∷◌, length, find, Option, None, Some, Result, Ok, Err, if◌then◌else◌}
+use Rattle.std.specs.Prelude.{ℕ, ◌≡◌, ◌⊎◌, Bool, true, false, nat_lt, ◌||◌, is_none, List, [], ◌∷◌, length, find, Option, None, Some, Result, Ok, Err, if◌then◌else◌}
 use Rattle.std.specs.Option.{option_map, option_or, option_and_then}
 use Rattle.hel_values.specs.declared.EndRef.{EndRef}
 use Rattle.hel_values.specs.declared.ValueKind.{ValueKind}
@@ -37,19 +37,12 @@ same_kind a b = false
 
 -- the publication that a name means, where it is of another kind
 abbrev pub other_kind : (List ℕ → Option EndRef) → List FederateRecord → ValueKind → List ℕ → Option EndRef
-other_kind meaning feds kind name = of_kind (meaning name)
-  where
-    of_kind : Option EndRef → Option EndRef
-    of_kind None = None
-    of_kind (Some p) = if same_kind (publication_at feds p).kind kind then None else Some p
+other_kind meaning feds kind name = option_and_then (λ p. if same_kind (publication_at feds p).kind kind then None else Some p) (meaning name)
 
 -- an input that takes one kind of values, and a target of another
 abbrev pub mismatch_at : (List ℕ → Option EndRef) → List FederateRecord → Interface InputRecord → Option PlanRefusal
-mismatch_at meaning feds i = of_input i.item.kind
-  where
-    of_input : Option ValueKind → Option PlanRefusal
-    of_input None = None
-    of_input (Some kind) = option_map (λ p. KindMismatch i.ref.fed i.ref.index p) (first_some (other_kind meaning feds kind) i.item.targets)
+mismatch_at meaning feds i =
+    option_and_then (λ kind. option_map (λ p. KindMismatch i.ref.fed i.ref.index p) (first_some (other_kind meaning feds kind) i.item.targets)) i.item.kind
 
 -- a filter's source, destination or reroute that is no endpoint
 abbrev pub reroute_refusal : (List ℕ → Option EndRef) → FilterKind → Option PlanRefusal
