@@ -105,7 +105,7 @@ impl Plan {
         self.federates.at(usize::from(f))
     }
 
-    /// The tree.
+    /// The nodes, and for each federate the core at which it stands.
     pub fn tree(&self) -> &Tree
         ensures tree { result.now ≡ self.now.tree }
         ensures valid { IsValid result.now }
