@@ -1,20 +1,18 @@
 -- What is known where no reason speaks against a plan.
-use Rattle.std.proofs.Common.{◌≡◌, ◌≢◌, ◌⊎◌, inl, inr, ℕ, zero, suc, ◌+◌, ◌<◌, ◌≤◌, Bool, true, false, List, [], ◌∷◌, ◌++◌, length, get_or, arith, refl, sym, ◌∙◌, ap, subst, Option, Some, None, map}
-use Rattle.std.specs.Prelude.{if◌then◌else◌, ◌||◌, nat_lt, nat_le, is_none, is_some}
-use Rattle.std.specs.Option.{option_or, option_map}
-use Rattle.std.proofs.lemmas.Bool.{cases_Bool, cases_lt, true≢false, or_parts, ltb-false}
-use Rattle.std.proofs.lemmas.List.{get_or_past, length-map}
+use Rattle.std.proofs.Common.{◌≡◌, inl, inr, ℕ, ◌≤◌, Bool, true, false, List, [], ◌∷◌, length, get_or, refl, sym, ◌∙◌, ap, subst, Option, Some, None, map}
+use Rattle.std.specs.Prelude.{if◌then◌else◌, ◌||◌, nat_lt}
+use Rattle.std.specs.Option.{option_or}
+use Rattle.std.proofs.lemmas.Bool.{ltb-false}
+use Rattle.std.proofs.lemmas.List.{length-map}
 use Rattle.hel_lists.specs.Members.{IsIn, Each}
 use Rattle.hel_lists.proofs.Members.{in_map, in_filter}
 use Rattle.hel_values.specs.declared.EndRef.{EndRef}
-use Rattle.interface_names.specs.declared.records.EndRecord.{EndRecord}
 use Rattle.interface_names.specs.declared.records.FederateRecord.{FederateRecord}
 use Rattle.interface_names.specs.Filter.{FilterTerms}
 use Rattle.message_filters.specs.Limits.{most_filters}
 use Rattle.federation_plan.specs.declared.refusal.PlanRefusal.{PlanRefusal}
-use Rattle.federation_plan.specs.Interfaces.{Interface, one_in, naming, refs_naming, endpoint_of, publication_of, inputs, filters, endpoints, federate_at, endpoint_at, blank_endpoint, IsFilter, IsEndpoint}
+use Rattle.federation_plan.specs.Interfaces.{Interface, one_in, naming, refs_naming, endpoint_of, publication_of, inputs, filters, endpoints, federate_at, blank_endpoint, IsFilter, IsEndpoint}
 use Rattle.federation_plan.specs.Chains.{sources, destinations}
-use Rattle.federation_plan.specs.Tables.{row_at, entry, AreLists, too_long_in}
 use Rattle.federation_plan.specs.Refusal.{first_some, missing_at, mismatch_at, target_at, too_long_at, named_refusal}
 use Rattle.federation_plan.proofs.Places.{stands_at, among_all}
 

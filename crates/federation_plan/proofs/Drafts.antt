@@ -1,10 +1,10 @@
 -- The tables of a plan, from those that it is made from.
-use Rattle.std.proofs.Common.{◌≡◌, ◌≢◌, ◌⊎◌, inl, inr, ℕ, zero, suc, ◌+◌, ◌<◌, ◌≤◌, Bool, true, false, List, [], ◌∷◌, ◌++◌, length, get_or, arith, refl, sym, ◌∙◌, ap, subst, Option, Some, None, map}
-use Rattle.std.specs.Prelude.{if◌then◌else◌, ◌||◌, nat_lt, Result, Ok, Err}
+use Rattle.std.proofs.Common.{◌≡◌, ◌⊎◌, inl, inr, ℕ, ◌<◌, ◌≤◌, List, [], ◌∷◌, length, arith, refl, sym, ◌∙◌, ap, subst, Option, Some, None, map}
+use Rattle.std.specs.Prelude.{if◌then◌else◌, ◌||◌, nat_lt, Result}
 use Rattle.std.specs.Option.{option_or}
 use Rattle.std.proofs.lemmas.Bool.{cases_lt}
 use Rattle.std.proofs.lemmas.List.{get_or_past, length-map}
-use Rattle.hel_lists.specs.Members.{IsIn, Each}
+use Rattle.hel_lists.specs.Members.{IsIn}
 use Rattle.hel_lists.proofs.Members.{in_filter}
 use Rattle.hel_values.specs.declared.EndRef.{EndRef}
 use Rattle.interface_names.specs.declared.records.EndRecord.{EndRecord}
@@ -14,10 +14,10 @@ use Rattle.message_filters.specs.Limits.{most_filters}
 use Rattle.message_filters.specs.declared.filter.Filter.{Filter}
 use Rattle.federation_plan.specs.declared.refusal.PlanRefusal.{PlanRefusal}
 use Rattle.federation_plan.specs.declared.refusal.PlanRefusal.TheVariants.{ChainTooLong}
-use Rattle.federation_plan.specs.Interfaces.{Interface, naming, refs_naming, endpoint_of, publication_of, inputs, filters, endpoints, federate_at, filter_at, blank_filter, IsPublication, IsEndpoint, ArePublications, AreEndpoints}
+use Rattle.federation_plan.specs.Interfaces.{Interface, naming, refs_naming, endpoint_of, publication_of, inputs, filters, endpoints, federate_at, filter_at, blank_filter, IsEndpoint, ArePublications, AreEndpoints}
 use Rattle.federation_plan.specs.Chains.{sources, destinations, filter_of, chain_on, source_chain, destination_chain}
 use Rattle.federation_plan.specs.Links.{AreBelow}
-use Rattle.federation_plan.specs.Tables.{row_at, entry, AreLists, too_long_in, chain_by}
+use Rattle.federation_plan.specs.Tables.{row_at, entry, too_long_in, chain_by}
 use Rattle.federation_plan.specs.Draft.{IsSide}
 use Rattle.federation_plan.specs.Refusal.{first_some, missing_at, mismatch_at, target_at, too_long_at, named_refusal, Says}
 use Rattle.federation_plan.proofs.Accepted.{filters_named}

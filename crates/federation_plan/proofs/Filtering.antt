@@ -1,9 +1,9 @@
 -- Where the filters let a message arrive.
-use Rattle.std.proofs.Common.{◌≡◌, ◌≢◌, ◌⊎◌, inl, inr, ℕ, zero, suc, ◌+◌, ◌*◌, ◌<◌, ◌≤◌, List, [], ◌∷◌, arith, refl, sym, ◌∙◌, ap, subst, Option, Some, None}
+use Rattle.std.proofs.Common.{◌≡◌, inl, inr, ℕ, ◌*◌, ◌≤◌, List, [], ◌∷◌, arith, refl, sym, ◌∙◌, ap, subst, Option, Some, None}
 use Rattle.std.specs.Prelude.{IfSome}
-use Rattle.std.specs.List.{filter_map, position_from}
+use Rattle.std.specs.List.{position_from}
 use Rattle.std.specs.Option.{option_map_or}
-use Rattle.hel_lists.specs.Members.{IsIn, Each}
+use Rattle.hel_lists.specs.Members.{Each}
 use Rattle.hel_lists.proofs.Members.{in_map, in_filter}
 use Rattle.hel_values.specs.declared.EndRef.{EndRef}
 use Rattle.interface_names.specs.declared.records.FederateRecord.{FederateRecord}
@@ -16,7 +16,7 @@ use Rattle.message_filters.specs.Chain.{filtered_of, last_of, kept_of, KeepsBoun
 use Rattle.helics_time.specs.Time.{longest_span}
 use Rattle.message_filters.specs.Limits.{most_filters}
 use Rattle.federation_plan.specs.Interfaces.{Interface, naming, endpoint_of, filters, IsEndpoint}
-use Rattle.federation_plan.specs.Chains.{chain_on, filter_of, reroutes, source_chain, destination_chain, later_by, filtered_at, IsFiltered}
+use Rattle.federation_plan.specs.Chains.{chain_on, filter_of, reroutes, source_chain, destination_chain, later_by, IsFiltered}
 use Rattle.federation_plan.specs.Refusal.{target_at, refusal_of}
 use Rattle.federation_plan.proofs.Accepted.{IsAccepted, accepted, none_asks, both_none}
 use Rattle.federation_plan.proofs.Depending.{from_member, reroute_known}

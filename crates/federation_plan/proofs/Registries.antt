@@ -1,10 +1,9 @@
 -- What a registry tells of the federates of a plan.
-use Rattle.std.proofs.Common.{◌≡◌, ◌⊎◌, inl, inr, ℕ, ◌<◌, ◌≤◌, List, [], ◌∷◌, length, arith, refl, sym, ◌∙◌, ap, subst, Option, Some, None}
-use Rattle.std.specs.Prelude.{Result, Ok, Err}
+use Rattle.std.proofs.Common.{◌≡◌, ◌⊎◌, inl, inr, ℕ, ◌≤◌, List, [], ◌∷◌, length, arith, refl, sym, ◌∙◌, ap, subst, Option, Some, None}
 use Rattle.std.specs.Option.{option_or}
 use Rattle.std.proofs.lemmas.Bool.{cases_lt}
 use Rattle.std.proofs.lemmas.List.{get_or_past}
-use Rattle.interface_names.specs.Limits.{most_federates, most_interfaces}
+use Rattle.interface_names.specs.Limits.{most_interfaces}
 use Rattle.interface_names.specs.Federate.{interface_count}
 use Rattle.interface_names.specs.Registry.{IsRegistry}
 use Rattle.interface_names.specs.declared.records.FederateRecord.{FederateRecord}
@@ -16,7 +15,7 @@ use Rattle.federation_plan.specs.declared.tree.Tree.{Tree}
 use Rattle.federation_plan.specs.Tree.{IsValid}
 use Rattle.federation_plan.specs.Depends.{depends}
 use Rattle.federation_plan.specs.Plan.{IsKept, IsFederation}
-use Rattle.federation_plan.specs.Interfaces.{AreFew, federate_at, blank_federate}
+use Rattle.federation_plan.specs.Interfaces.{AreFew, blank_federate}
 use Rattle.federation_plan.specs.Refusal.{none_at_all, named_refusal, refusal_of}
 
 -- it holds few federates with few interfaces

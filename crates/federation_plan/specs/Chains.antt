@@ -1,5 +1,5 @@
 -- The filters that stand on an endpoint, and what they make of a message.
-use Rattle.std.specs.Prelude.{ℕ, ◌+◌, ◌*◌, ◌≤◌, ◌<◌, Bool, false, nat_lt, ◌||◌, not, List, [], ◌∷◌, map, length, Option, None, Some, unwrap_or}
+use Rattle.std.specs.Prelude.{ℕ, ◌+◌, ◌*◌, ◌≤◌, ◌<◌, Bool, ◌||◌, not, List, map, Option, unwrap_or}
 use Rattle.std.specs.List.{filter_map}
 use Rattle.hel_values.specs.declared.EndRef.{EndRef}
 use Rattle.interface_names.specs.declared.records.EndRecord.{EndRecord}
@@ -12,7 +12,7 @@ use Rattle.message_filters.specs.declared.filter.Filter.TheVariants.{Delay as La
 use Rattle.message_filters.specs.declared.chain.Filtered.{Filtered}
 use Rattle.message_filters.specs.declared.chain.Filtered.TheVariants.{Kept, Dropped}
 use Rattle.message_filters.specs.Filter.{reroute_of}
-use Rattle.message_filters.specs.Chain.{filtered_of, last_of}
+use Rattle.message_filters.specs.Chain.{filtered_of}
 use Rattle.helics_time.specs.Time.{longest_span}
 use Rattle.message_filters.specs.Limits.{most_filters}
 use Rattle.federation_plan.specs.Interfaces.{Interface, IsEndpoint, name_ref, naming, endpoint_of, endpoint_at, filters}

@@ -1,5 +1,5 @@
 -- The links from federate to federate that one interface makes.
-use Rattle.std.specs.Prelude.{ℕ, ◌<◌, ◌≡◌, Bool, false, nat_eq, nat_lt, ◌&&◌, ◌||◌, length, List, [], ◌∷◌, Option, None, Some, is_none, if◌then◌else◌}
+use Rattle.std.specs.Prelude.{ℕ, ◌<◌, ◌≡◌, Bool, false, nat_eq, nat_lt, ◌&&◌, length, List, Option, None, Some, is_none, if◌then◌else◌}
 use Rattle.std.specs.List.{list_any}
 use Rattle.hel_values.specs.declared.EndRef.{EndRef}
 use Rattle.interface_names.specs.declared.records.InputRecord.{InputRecord}

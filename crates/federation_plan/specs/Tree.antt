@@ -1,8 +1,8 @@
 -- Trees of nodes, and the core of each federate.
-use Rattle.std.specs.Prelude.{ℕ, ◌<◌, ◌≤◌, ◌≡◌, ◌≢◌, ◌↔◌, List, [], map, length, slice_index_or, if◌then◌else◌}
+use Rattle.std.specs.Prelude.{ℕ, ◌<◌, ◌≤◌, ◌≡◌, ◌≢◌, List, [], map, length, slice_index_or}
 use Rattle.hel_lists.specs.Members.{Each}
 use Rattle.federation_plan.specs.declared.tree.NodeKind.{NodeKind}
-use Rattle.federation_plan.specs.declared.tree.NodeKind.TheVariants.{Root, Broker, Core}
+use Rattle.federation_plan.specs.declared.tree.NodeKind.TheVariants.{Root, Core}
 use Rattle.federation_plan.specs.declared.tree.NodeRow.{NodeRow}
 use Rattle.federation_plan.specs.declared.tree.Tree.{Tree}
 

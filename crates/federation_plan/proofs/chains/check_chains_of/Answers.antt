@@ -1,4 +1,4 @@
-use Rattle.std.proofs.Common.{arith, get_or, sym}
+use Rattle.std.proofs.Common.{arith, get_or}
 use Rattle.std.proofs.lemmas.Result.{err_from_is_err_and}
 use Rattle.federation_plan.specs.Interfaces.{blank_endpoint}
 use Rattle.federation_plan.proofs.Lists.{own_default}

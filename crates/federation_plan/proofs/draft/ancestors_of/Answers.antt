@@ -1,6 +1,5 @@
-use Rattle.std.proofs.Common.{◌∙◌, ap, sym, subst, List, ℕ, Option, length, ◌<◌, refl}
+use Rattle.std.proofs.Common.{◌∙◌, ap, sym, subst, ℕ, ◌<◌, refl}
 use Rattle.std.specs.HashMap.{get_by_text}
-use Rattle.hel_values.specs.declared.EndRef.{EndRef}
 use Rattle.interface_names.specs.declared.records.FederateRecord.{FederateRecord}
 use Rattle.dependency_paths.specs.Links.{linked}
 use Rattle.federation_plan.specs.Interfaces.{IsEndpoint}

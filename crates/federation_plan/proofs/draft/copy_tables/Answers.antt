@@ -1,8 +1,3 @@
-use Rattle.std.proofs.Common.{◌∙◌, ap, subst, List, ℕ}
-use Rattle.hel_values.specs.declared.EndRef.{EndRef}
-use Rattle.federation_plan.specs.declared.chains.EndChains.{EndChains}
-use Rattle.federation_plan.specs.declared.draft.Tables.{Tables}
-use Rattle.federation_plan.specs.Draft.{AreTables}
 use Rattle.federation_plan.proofs.draft.copy_tables.Goals as goal
 
 pub returns : goal.returns

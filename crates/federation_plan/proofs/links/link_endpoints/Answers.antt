@@ -1,5 +1,4 @@
-use Rattle.std.proofs.Common.{◌<◌, ◌∙◌, ℕ, length, sym, subst}
-use Rattle.hel_values.specs.declared.EndRef.{EndRef}
+use Rattle.std.proofs.Common.{◌<◌, ◌∙◌, ℕ, sym, subst}
 use Rattle.federation_plan.proofs.links.link_endpoints.Goals as goal
 
 pub link_endpoint-requires-clause-ends : goal.link_endpoint-requires-clause-ends

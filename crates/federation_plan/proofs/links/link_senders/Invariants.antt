@@ -1,12 +1,9 @@
-use Rattle.std.proofs.Common.{◌≡◌, ℕ, take, length}
-use Rattle.std.specs.Prelude.{◌||◌, ◌&&◌, nat_eq}
-use Rattle.std.specs.List.{list_any}
+use Rattle.std.proofs.Common.{◌≡◌, length}
 use Rattle.std.specs.HashMap.{get_by_text}
 use Rattle.dependency_paths.specs.Links.{linked}
-use Rattle.federation_plan.specs.Interfaces.{name_fed}
 use Rattle.federation_plan.specs.Tables.{rerouted_at}
-use Rattle.federation_plan.specs.Links.{sends, hears, is_sender, has_endpoint}
-use Rattle.federation_plan.proofs.Joined.{IsJoiningIn, IsJoiningFrom}
+use Rattle.federation_plan.specs.Links.{sends}
+use Rattle.federation_plan.proofs.Joined.{IsJoiningFrom}
 use Rattle.federation_plan.proofs.links.link_senders.Given as goal
 
 abbrev pub invariant-loop-f : goal.invariant-loop-f

@@ -3,10 +3,8 @@ use Rattle.std.specs.Prelude.{◌||◌, ◌&&◌, nat_eq}
 use Rattle.std.specs.List.{list_any}
 use Rattle.std.specs.HashMap.{get_by_text}
 use Rattle.dependency_paths.specs.Links.{linked}
-use Rattle.federation_plan.specs.Interfaces.{name_fed}
 use Rattle.federation_plan.specs.Tables.{rerouted_at}
-use Rattle.federation_plan.specs.Links.{sends, hears, is_sender, has_endpoint}
-use Rattle.federation_plan.proofs.Joined.{IsJoiningIn, IsJoiningFrom}
+use Rattle.federation_plan.specs.Links.{is_sender}
 use Rattle.federation_plan.proofs.links.link_sources.Given as goal
 
 abbrev pub invariant-loop-name : goal.invariant-loop-name

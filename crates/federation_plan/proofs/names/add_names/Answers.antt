@@ -1,4 +1,4 @@
-use Rattle.std.proofs.Common.{arith, ap, ◌∙◌, Option, Some, None, List, ℕ}
+use Rattle.std.proofs.Common.{arith, ◌∙◌}
 use Rattle.std.specs.HashMap.{get_by_text}
 use Rattle.federation_plan.specs.Called.{known_as}
 use Rattle.federation_plan.proofs.Named.{one_named, called}

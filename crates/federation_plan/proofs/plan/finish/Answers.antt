@@ -1,13 +1,9 @@
-use Rattle.std.proofs.Common.{◌≡◌, ◌∙◌, sym, ap, subst, List, length}
-use Rattle.hel_lists.specs.Members.{Each}
+use Rattle.std.proofs.Common.{◌∙◌, sym, ap, subst, List}
 use Rattle.interface_names.specs.declared.records.FederateRecord.{FederateRecord}
-use Rattle.dependency_paths.specs.Paths.{AreAncestors}
 use Rattle.federation_plan.specs.declared.tree.NodeRow.{NodeRow}
 use Rattle.federation_plan.specs.Interfaces.{AreFew}
 use Rattle.federation_plan.specs.Tree.{parents_of}
-use Rattle.federation_plan.specs.Depends.{depends}
 use Rattle.federation_plan.specs.Draft.{AreTables}
-use Rattle.federation_plan.specs.Plan.{IsKept}
 use Rattle.federation_plan.proofs.Registries.{few_of, federation}
 use Rattle.federation_plan.proofs.plan.finish.Goals as goal
 

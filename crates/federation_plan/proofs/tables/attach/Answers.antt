@@ -1,9 +1,7 @@
-use Rattle.std.proofs.Common.{◌≡◌, ◌<◌, ◌∙◌, ℕ, ap, sym, subst, arith, [], ◌∷◌, ◌++◌, List, length, Bool}
+use Rattle.std.proofs.Common.{◌<◌, ◌∙◌, ℕ, ap, sym, subst, arith, [], ◌∷◌, ◌++◌, Bool}
 use Rattle.std.specs.Prelude.{if◌then◌else◌}
 use Rattle.std.specs.HashMap.{get_by_text}
-use Rattle.hel_values.specs.declared.EndRef.{EndRef}
-use Rattle.federation_plan.specs.Interfaces.{is_ref, name_ref}
-use Rattle.federation_plan.specs.Tables.{row_at, entry}
+use Rattle.federation_plan.specs.Tables.{entry}
 use Rattle.federation_plan.proofs.Attached.{one_more, names_more}
 use Rattle.federation_plan.proofs.tables.attach.Goals as goal
 

@@ -1,4 +1,4 @@
-use Rattle.std.proofs.Common.{◌≡◌, ℕ, List, length}
+use Rattle.std.proofs.Common.{◌≡◌, ℕ, length}
 use Rattle.std.specs.HashMap.{get_by_text}
 use Rattle.federation_plan.specs.Side.{names_on}
 use Rattle.federation_plan.specs.Tables.{row_at}

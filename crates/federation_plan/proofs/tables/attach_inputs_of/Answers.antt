@@ -1,5 +1,5 @@
-use Rattle.std.proofs.Common.{◌≡◌, ◌<◌, ◌∙◌, ℕ, refl, sym, subst, arith}
-use Rattle.federation_plan.proofs.Attached.{not_last, begins_in, attached_in, ends_in}
+use Rattle.std.proofs.Common.{◌∙◌, refl, arith}
+use Rattle.federation_plan.proofs.Attached.{not_last, begins_in, attached_in}
 use Rattle.federation_plan.proofs.tables.attach_inputs_of.Goals as goal
 
 pub loop-index-init : goal.loop-index-init

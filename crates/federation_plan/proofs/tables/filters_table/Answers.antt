@@ -1,4 +1,4 @@
-use Rattle.std.proofs.Common.{◌≡◌, ◌<◌, ◌∙◌, ℕ, refl, sym, subst, arith, length}
+use Rattle.std.proofs.Common.{◌<◌, ℕ, refl, sym, subst, arith, length}
 use Rattle.interface_names.specs.declared.records.FederateRecord.{FederateRecord}
 use Rattle.federation_plan.proofs.Named.{federate_within}
 use Rattle.federation_plan.proofs.tables.filters_table.Goals as goal

@@ -1,4 +1,4 @@
-use Rattle.std.proofs.Common.{◌≡◌, ℕ, ◌<◌, length, arith, refl, sym}
+use Rattle.std.proofs.Common.{arith, refl, sym}
 use Rattle.std.proofs.lemmas.Bool.{true≢false}
 use Rattle.federation_plan.proofs.Lists.{at_in, each_more}
 use Rattle.federation_plan.proofs.tree.are_cores.Goals as goal

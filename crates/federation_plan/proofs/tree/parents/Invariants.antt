@@ -1,4 +1,4 @@
-use Rattle.std.proofs.Common.{◌≡◌, take, map}
+use Rattle.std.proofs.Common.{◌≡◌, take}
 use Rattle.federation_plan.specs.Tree.{parents_of}
 use Rattle.federation_plan.proofs.tree.parents.Given as goal
 

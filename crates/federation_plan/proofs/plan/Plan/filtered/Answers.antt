@@ -1,4 +1,4 @@
-use Rattle.std.proofs.Common.{◌≡◌, ◌∙◌, ap, sym, subst, List}
+use Rattle.std.proofs.Common.{◌∙◌, ap, sym, subst, List}
 use Rattle.message_filters.specs.declared.filter.Filter.{Filter}
 use Rattle.message_filters.specs.Chain.{filtered_of, KeepsBounds}
 use Rattle.federation_plan.specs.Interfaces.{IsEndpoint}
