@@ -1,22 +1,21 @@
 -- Pairs of federates that wait for each other.
-use Rattle.std.proofs.Common.{◌≡◌, ◌⊎◌, inl, inr, ℕ, zero, suc, ◌+◌, ◌<◌, ◌≤◌, Bool, true, false, List, [], ◌∷◌, length, get_or, drop, drop-cons, arith, refl, sym, ◌∙◌, ap, subst, Option, Some, None, add-one, eq-eqb}
-use Rattle.std.specs.Prelude.{◌||◌, ◌&&◌, nat_eq, nat_lt}
+use Rattle.std.proofs.Common.{◌≡◌, inl, inr, ℕ, zero, suc, ◌+◌, ◌<◌, ◌≤◌, Bool, true, List, [], ◌∷◌, length, get_or, drop, drop-cons, arith, refl, sym, ◌∙◌, ap, subst, Some, add-one, eq-eqb}
+use Rattle.std.specs.Prelude.{◌&&◌, nat_eq}
 use Rattle.std.specs.List.{list_any}
 use Rattle.std.specs.List.Sorted.{IsStrictlyIncreasing}
-use Rattle.std.proofs.lemmas.Bool.{or_cases, and_parts, eqb-true, true≢false, cases_lt}
+use Rattle.std.proofs.lemmas.Bool.{or_cases, and_parts, eqb-true, cases_lt}
 use Rattle.std.proofs.lemmas.List.{drop_all, get_or_past}
 use Rattle.std.proofs.lemmas.List.Kept.{AllPairs-from_increasing}
 use Rattle.hel_lists.specs.Members.{IsIn}
-use Rattle.hel_values.specs.declared.EndRef.{EndRef}
 use Rattle.interface_names.specs.declared.records.InputRecord.{InputRecord}
 use Rattle.interface_names.specs.declared.records.EndRecord.{EndRecord}
 use Rattle.interface_names.specs.declared.records.FederateRecord.{FederateRecord}
-use Rattle.dependency_paths.specs.Paths.{row_of, Leads, AreAncestors}
+use Rattle.dependency_paths.specs.Paths.{row_of, Leads}
 use Rattle.dependency_paths.specs.Paths.Leads.{by_link, by_way_of}
 use Rattle.federation_plan.specs.Interfaces.{Interface, name_fed, publication_of, inputs, endpoints}
 use Rattle.federation_plan.specs.Depends.{by_value, by_message, depends, reaches}
 use Rattle.federation_plan.specs.Plan.{Federation, IsFederation}
-use Rattle.federation_plan.specs.Waiting.{IsWaitPair, ComesFirst, IsFirstWait, IsFirstPartner}
+use Rattle.federation_plan.specs.Waiting.{IsWaitPair, IsFirstWait, IsFirstPartner}
 use Rattle.federation_plan.proofs.Lists.{any_from, any_to}
 use Rattle.federation_plan.proofs.Named.{federate_within}
 use Rattle.federation_plan.proofs.Places.{stands_at, publications_known}
@@ -63,7 +62,7 @@ pub record AreLeft (p : Federation) (a i : ℕ) (row : List ℕ) : Type 0 where
   pub left : (d : ℕ) → IsWaitPair p a d → IsIn d (drop i row)
 
 pub left_first : (p : Federation) (a : ℕ) (row : List ℕ) → row ≡ row_of p.ancestors a → AreLeft p a 0 row
-left_first p a row is = record { left = λ d pair. subst (IsIn d) (sym is) pair.b_first }
+left_first p a row is = record { left = λ d pair. subst (IsIn d) (sym is) pair.1.b_first }
 
 pub left_more : (p : Federation) (a i b : ℕ) (row : List ℕ) → i < length row → b ≡ get_or row i b → (IsWaitPair p a b → ⊥) → AreLeft p a i row → AreLeft p a (i + 1) row
 left_more p a i b row below at none were = record {
@@ -137,7 +136,7 @@ done_first p a b were partner = (
 pub done_all : (p : Federation) (a : ℕ) → IsFederation p → length p.federates ≤ a → AreDone p a → (c d : ℕ) → IsWaitPair p c d → ⊥
 done_all p a is past were c d pair =
     let low : a ≤ c = were.done c d pair in
-    let below : c < length p.federates = row_some p is d c pair.b_first in
+    let below : c < length p.federates = row_some p is d c pair.1.b_first in
     omega (arith, low, below, past)
 
 -- a member by a test

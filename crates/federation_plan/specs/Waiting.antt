@@ -1,18 +1,12 @@
 -- Federates that wait for current updates.
-use Rattle.std.specs.Prelude.{ℕ, ◌≡◌, ◌<◌, ◌≤◌, ◌⊎◌, true, List, Option, None, Some}
-use Rattle.hel_lists.specs.Members.{IsIn}
-use Rattle.interface_names.specs.declared.records.FederateRecord.{FederateRecord}
-use Rattle.dependency_paths.specs.Paths.{row_of}
-use Rattle.federation_plan.specs.Interfaces.{federate_at}
+use Rattle.std.specs.Prelude.{ℕ, ◌≡◌, ◌<◌, ◌≤◌, ◌⊎◌, Option, None, Some}
+use Rattle.machine_laws.specs.Laws.{WaitForEachOther}
 use Rattle.federation_plan.specs.Plan.{Federation}
+use Rattle.federation_plan.specs.Wires.{wires_of}
 
--- two federates that wait for current updates and are each other's ancestors, the lesser first
-pub record IsWaitPair (p : Federation) (a b : ℕ) : Type 0 where
-  pub ordered : a < b
-  pub a_waits : (federate_at p.federates a).settings.wait ≡ true
-  pub b_waits : (federate_at p.federates b).settings.wait ≡ true
-  pub a_first : IsIn a (row_of p.ancestors b)
-  pub b_first : IsIn b (row_of p.ancestors a)
+-- two federates that wait for each other, the lesser first
+abbrev pub IsWaitPair : Federation → ℕ → ℕ → Type 0
+IsWaitPair p a b = (a < b) × WaitForEachOther (wires_of p) a b
 
 -- a pair of two federates stands at or before another one
 abbrev pub ComesFirst : ℕ → ℕ → ℕ → ℕ → Type 0

@@ -1,10 +1,8 @@
 -- Where a run is stuck two of its federates wait for each other.
 use Rattle.std.proofs.Common.{◌≡◌, ◌∙◌, ◌⊎◌, inl, inr, ℕ, zero, suc, ◌<◌, Bool, true, false, List, [], ◌∷◌, length, map, Option, Some, None, refl, sym, ap, subst, arith}
 use Rattle.std.specs.Prelude.{if◌then◌else◌, ◌||◌, ◌≢◌, slice_index_or}
-use Rattle.std.specs.List.{list_any}
-use Rattle.std.proofs.lemmas.Bool.{cases_lt, cases_Bool, false≢true, true≢false}
-use Rattle.helics_time.specs.Settings.{Terms}
-use Rattle.hel_lists.specs.Members.{IsIn, Each}
+use Rattle.std.proofs.lemmas.Bool.{cases_Bool, false≢true}
+use Rattle.hel_lists.specs.Members.{Each}
 use Rattle.interface_names.specs.declared.records.FederateRecord.{FederateRecord}
 use Rattle.time_state.specs.Fed.{is_live}
 use Rattle.time_state.specs.declared.Cause.TheVariants.{Finished, Failed, Died, Halted as HaltedCause}
@@ -12,13 +10,10 @@ use Rattle.time_state.specs.declared.Phase.{Phase}
 use Rattle.time_state.specs.declared.Phase.TheVariants.{Created, Initializing, Entering, Running, Waiting, Ended}
 use Rattle.machine_laws.specs.declared.logs.FedLog.{FedLog}
 use Rattle.machine_laws.specs.Plan.{Plan, IsPlan}
-use Rattle.machine_laws.specs.Machine.{Member, blank_member, default_terms, member_at, log_of, logs_of, end_of}
-use Rattle.machine_laws.specs.Laws.{WaitForEachOther, terms_of}
+use Rattle.machine_laws.specs.Machine.{Member, blank_member, member_at, log_of, logs_of, end_of}
 use Rattle.machine_laws.specs.Moves.{opening_play, IsUpToFailure}
 use Rattle.machine_laws.proofs.Failures.{stops_at_failure}
-use Rattle.federation_plan.specs.Interfaces.{federate_at}
 use Rattle.federation_plan.specs.Plan.{Federation, IsFederation}
-use Rattle.federation_plan.specs.Waiting.{IsWaitPair}
 use Rattle.federation_plan.specs.Wires.{wires_of}
 use Rattle.federation_plan.proofs.Waiting.{ancestor_within}
 use Rattle.federation_plan.proofs.Wired.{plans_are}
@@ -64,39 +59,10 @@ live_member (m ∷ ms) live = elim (cases_Bool (is_live_end (end_of m))) [
     later true b is some = absurd (false≢true (sym is))
     later false b is some = some
 
--- the settings of the plan are those of its federates
-settings_are : (feds : List FederateRecord) (f : ℕ) → slice_index_or (map (λ (x : FederateRecord). x.settings) feds) f default_terms ≡ (federate_at feds f).settings
-settings_are [] f = refl
-settings_are (fed ∷ feds) zero = refl
-settings_are (fed ∷ feds) (suc f) = settings_are feds f
-
+-- the machine has as many settings as there are federates
 settings_many : (feds : List FederateRecord) → length (map (λ (x : FederateRecord). x.settings) feds) ≡ length feds
 settings_many [] = refl
 settings_many (fed ∷ feds) = ap suc (settings_many feds)
-
--- who waits for each other in the machine does in the plan
-pair_of : (plan : Federation) → IsFederation plan → NoneWait plan → (a b : ℕ) → WaitForEachOther (wires_of plan) a b → ⊥
-pair_of plan is none a b pair = elim (cases_lt a b) [
-  | inl less ↦ none a b (record {
-    ordered = less;
-    a_waits = ap (λ (t : Terms). t.wait) (sym (settings_are plan.federates a)) ∙ pair.a_waits;
-    b_waits = ap (λ (t : Terms). t.wait) (sym (settings_are plan.federates b)) ∙ pair.b_waits;
-    a_first = pair.a_first;
-    b_first = pair.b_first;
-  })
-  | inr past ↦ elim (cases_lt b a) [
-    | inl more ↦ none b a (record {
-      ordered = more;
-      a_waits = ap (λ (t : Terms). t.wait) (sym (settings_are plan.federates b)) ∙ pair.b_waits;
-      b_waits = ap (λ (t : Terms). t.wait) (sym (settings_are plan.federates a)) ∙ pair.a_waits;
-      a_first = pair.b_first;
-      b_first = pair.a_first;
-    })
-    | inr same ↦
-        let equal : b ≡ a = omega (arith, past, same) in
-        (plans_are plan is).others a (subst (λ k. IsIn k ((wires_of plan).ancestors a)) equal pair.b_first)
-  ]
-]
 
 -- a run that no failure ended and that ends with a live federate has such a pair
 stuck_run : (plan : Federation) (scripts : List Course) (logs : List FedLog) → IsFederation plan → Each IsCourse scripts → HasLogsUpToFailure plan scripts None logs → ends_live logs ≡ true → NoneWait plan → ⊥
@@ -104,7 +70,7 @@ stuck_run plan scripts logs is rules has live none =
     let f = live_member has.end.state.members (ap ends_live (sym has.logs_are) ∙ live) in
     (stops_at_failure (wires_of plan) (plays_of plan scripts)).waits has.end has.feds f.0 (plans_are plan is) (times_of plan scripts rules)
     (λ a b anc. (let less = ancestor_within plan is a b anc in let many = settings_many plan.federates in omega (arith, less, many)))
-    has.run f.1 f.2 (pair_of plan is none)
+    has.run f.1 f.2 none
 
 -- a run's status
 stuck_is : (failed : Option ℕ) (logs : List FedLog) → status_of failed logs ≡ Stuck → (failed ≡ None) × (ends_live logs ≡ true)

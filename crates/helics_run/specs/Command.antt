@@ -5,8 +5,9 @@ use Rattle.command_words.specs.declared.Asked.{Asked}
 use Rattle.command_words.specs.declared.Verb.TheVariants.{Sim}
 use Rattle.command_words.specs.Words.{IsAsked}
 use Rattle.fed_script.specs.Script.{Course}
+use Rattle.machine_laws.specs.Laws.{WaitForEachOther}
 use Rattle.federation_plan.specs.Plan.{Federation}
-use Rattle.federation_plan.specs.Waiting.{IsWaitPair}
+use Rattle.federation_plan.specs.Wires.{wires_of}
 use Rattle.scenario_reading.specs.Order.{Reads}
 use Rattle.scenario_reading.specs.Fitting.{Scene}
 use Rattle.scenario_reading.specs.Reading.{scenario_at}
@@ -41,7 +42,7 @@ IsPlanAt content words plan =
 
 -- no two of its federates that wait for current updates are each other's ancestors
 abbrev pub NoneWait : Federation → Type 0
-NoneWait plan = (a b : ℕ) → IsWaitPair plan a b → ⊥
+NoneWait plan = (a b : ℕ) → WaitForEachOther (wires_of plan) a b → ⊥
 
 -- all that these words ask for is told
 abbrev pub TellsAll : Content → List (List ℕ) → Type 0
