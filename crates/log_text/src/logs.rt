@@ -114,8 +114,9 @@ fn write_feds(
 
 /// The text of the logs of a plan's federates, the first log that of federate 0: for each a line
 /// with its number and name, a line for each grant and for each item that it handed over, and a
-/// line that says how it stands (docs/FORMATS.md, Log text). Where there is no federate or
-/// interface of a number, its name is blank.
+/// line that says how it stands (docs/FORMATS.md, Log text). Where there is no federate of a
+/// number, its name is blank; where its federate has no interface of a number, the interface's own
+/// name is, as in `A/`.
 pub fn log_text(alloc: Global, plan: &Plan, logs: &Logs) -> Result<String, OutOfMemory>
     ensures { IfOk result (λ text. string_bytes text ≡ logs_text plan.now.federates logs.now.feds) }
 {

@@ -1,4 +1,5 @@
-// What the federation calls federates and interfaces. What there isn't has a blank name.
+// What the federation calls federates and interfaces. A federate that there isn't has a blank name;
+// an interface that its federate hasn't is told by a blank name of its own, as in `A/`.
 ghost use Rattle.std.specs.Prelude.{◌≡◌, ◌++◌, OnOk, string_bytes};
 ghost use Rattle.interface_names.specs.Names.{global_name_of};
 ghost use Rattle.federation_plan.specs.Interfaces.{publication_at, endpoint_at};

@@ -1,4 +1,4 @@
-//! The entries of a runner file (docs/FORMATS.md, The whole runner file).
+//! The entries of a runner file (docs/FORMATS.md, Runner file).
 ghost use Rattle.std.specs.Prelude.{◌≡◌, ◌<◌, ◌≤◌, ◌^◌, ◌||◌, IfOk, false, length, option_map, unwrap_or};
 ghost use Rattle.std.specs.Option.{option_copied};
 ghost use Rattle.serde_json.specs.View.{view, items_view};

@@ -1,4 +1,4 @@
-//! A runner file, read whole (docs/FORMATS.md, The whole runner file).
+//! A runner file, read whole (docs/FORMATS.md, Runner file).
 ghost use Rattle.std.specs.Prelude.{◌≡◌, ◌<◌, ◌^◌, IfOk, IfSome, None, length, map, option_map};
 ghost use Rattle.serde_json.specs.View.{view, items_view};
 ghost use Rattle.json_reading.specs.Keys.{pairs_of};
@@ -43,9 +43,8 @@ pub struct Runner {
     pub entries: Items<Entry>,
 }
 
-/// What the bytes of a runner file say, or the first refusal (docs/FORMATS.md, The whole runner
-/// file). The nodes and the cores of the entries are a valid tree, and the places of the entries
-/// rise.
+/// What the bytes of a runner file say, or the first refusal (docs/FORMATS.md, Runner file). The
+/// nodes and the cores of the entries are a valid tree, and the places of the entries rise.
 #[tactic(auto, unfolding(crate::specs::Runner::runner_of))]
 pub fn read_runner(alloc: Global, bytes: &[u8]) -> Result<Runner, RunnerRefusal>
     ensures told { Answers result (runner_of bytes.now) }

@@ -4,7 +4,7 @@ ghost use Rattle.runner_config.specs.declared.refusal.RunnerRefusal.TheVariants.
 use hel_lists::OutOfMemory;
 
 /// Why a runner file is refused, in the order in which the reasons are looked for; a number is the
-/// place of an entry in the file's list, from 0 (docs/FORMATS.md, The whole runner file).
+/// place of an entry in the file's list, from 0 (docs/FORMATS.md, Runner file).
 #[derive(Clone, Copy, Debug, PartialEq, Eq)]
 pub enum RunnerRefusal {
     NotJson,

@@ -1,4 +1,4 @@
-//! The tree as a runner file spells it (docs/FORMATS.md, The whole runner file).
+//! The tree as a runner file spells it (docs/FORMATS.md, Runner file).
 ghost use Rattle.std.specs.Prelude.{◌≡◌, ◌<◌, IfOk, IfSome, length};
 ghost use Rattle.serde_json.specs.View.{view};
 ghost use Rattle.json_reading.specs.Keys.{pairs_of};
