@@ -55,7 +55,7 @@ pub words_stop : (read : Data → Read (List Word)) (front : List Word) (i : ℕ
     → (e.cause ≡ OutOfMemory) ⊎ (read d ≡ Err e) → Stands b (below (decimal i) e)
     → (b.cause ≡ OutOfMemory) ⊎ (with_words front (words_from read i (item d ds)) ≡ Err b)
 words_stop read front i d ds e b told stands = elim stands [
-  | inl m ↦ inl m
+  | inl m ↦ inl (ap (λ (x : ConfigRefusal). x.cause) m)
   | inr f ↦ elim told [
     | inl m ↦ inl (ap (λ (x : ConfigRefusal). x.cause) f ∙ m)
     | inr r ↦ inr (words_err read front i d ds e r ∙ ap Err (sym f))

@@ -46,7 +46,7 @@ pub err_step : {A : Type 0} (read : Data → Read A) (front : List A) (i : ℕ) 
     → (e.cause ≡ OutOfMemory) ⊎ (read d ≡ Err e) → Stands b (below (decimal i) e)
     → (b.cause ≡ OutOfMemory) ⊎ (with_front front (each_from read i (item d ds)) ≡ Err b)
 err_step read front i d ds e b known stands = elim stands [
-  | inl m ↦ inl m
+  | inl m ↦ inl (ap (λ (x : ConfigRefusal). x.cause) m)
   | inr f ↦ elim known [
     | inl m ↦ inl (ap (λ (x : ConfigRefusal). x.cause) f ∙ m)
     | inr r ↦ inr (front_err read front i d ds e r ∙ ap Err (sym f))

@@ -1,5 +1,5 @@
 -- Reading a JSON value: what it holds, or the first refusal with its place.
-use Rattle.std.specs.Prelude.{ℕ, ◌≡◌, ◌+◌, ◌⊎◌, List, [], ◌∷◌, ◌++◌, decimal, nat_lt, if◌then◌else◌, Option, Some, None, Result, Ok, Err}
+use Rattle.std.specs.Prelude.{ℕ, ◌≡◌, ◌≢◌, IfErr, ◌+◌, ◌⊎◌, List, [], ◌∷◌, ◌++◌, decimal, nat_lt, if◌then◌else◌, Option, Some, None, Result, Ok, Err}
 use Rattle.serde_json.specs.Data.{Data, Items, no_items, item}
 use Rattle.serde_json.specs.Find.{as_array}
 use Rattle.json_reading.specs.Keys.{Member, member_at, object_of, is_doubled}
@@ -114,7 +114,11 @@ no_memory = refused [] OutOfMemory
 
 -- memory was wanting, or it is this refusal
 abbrev pub Stands : ConfigRefusal → ConfigRefusal → Type 0
-Stands e told = (e.cause ≡ OutOfMemory) ⊎ (e ≡ told)
+Stands e told = (e ≡ no_memory) ⊎ (e ≡ told)
+
+-- memory wasn't wanting
+abbrev pub HadMemory : {X : Type 0} → Result X ConfigRefusal → Type 0
+HadMemory result = IfErr result (λ refusal. refusal.cause ≢ OutOfMemory)
 
 -- the code gives what is read, or memory was wanting
 abbrev pub Gives : {X Y : Type 0} → (X → Y) → Result X ConfigRefusal → Read Y → Type 0

@@ -1,6 +1,6 @@
 // What stands at a key.
-ghost use Rattle.std.specs.Prelude.{◌≡◌, option_map};
-ghost use Rattle.json_reading.specs.Keys.{pairs_of};
+ghost use Rattle.std.specs.Prelude.{◌≡◌, Ok, None, option_map};
+ghost use Rattle.json_reading.specs.Keys.{pairs_of, member_at};
 ghost use Rattle.json_reading.specs.Reading.{Read, Gives, optional_at, needed_at, optional_either_at, needed_either_at, either_member, under};
 ghost use Rattle.serde_json.specs.Data.{Data};
 ghost use Rattle.serde_json.specs.View.{view};
@@ -21,14 +21,15 @@ pub trait Reader {
         ensures { Gives (λ x. x) result (reads self.now (view value.now)) };
 }
 
-/// What stands at a key, where it stands there.
+/// What stands at a key, where it stands there; where it doesn't, no memory is taken.
 pub fn optional<R: Reader>(
     alloc: Global,
     object: &Object,
     key: &str,
     reader: &R,
 ) -> Result<Option<R::Output>, ConfigRefusal>
-    ensures { Gives (λ x. x) result (optional_at key.now (R.reads reader.now) (pairs_of object.now.entries)) }
+    ensures told { Gives (λ x. x) result (optional_at key.now (R.reads reader.now) (pairs_of object.now.entries)) }
+    ensures absent { member_at key.now (pairs_of object.now.entries) ≡ None → result ≡ Ok None }
 {
     match member(object, key) {
         Some((spelled, value)) => Ok(Some(read_member(alloc, spelled, value, reader)?)),
@@ -51,7 +52,8 @@ pub fn needed<R: Reader>(
     }
 }
 
-/// What stands at a key or else at another, where one of them stands there.
+/// What stands at a key or else at another, where one of them stands there; where none does, no
+/// memory is taken.
 pub fn optional_either<R: Reader>(
     alloc: Global,
     object: &Object,
@@ -59,7 +61,8 @@ pub fn optional_either<R: Reader>(
     other: &str,
     reader: &R,
 ) -> Result<Option<R::Output>, ConfigRefusal>
-    ensures { Gives (λ x. x) result (optional_either_at key.now other.now (R.reads reader.now) (pairs_of object.now.entries)) }
+    ensures told { Gives (λ x. x) result (optional_either_at key.now other.now (R.reads reader.now) (pairs_of object.now.entries)) }
+    ensures absent { either_member key.now other.now (pairs_of object.now.entries) ≡ None → result ≡ Ok None }
 {
     match either_member(object, key, other) {
         Some((spelled, value)) => Ok(Some(read_member(alloc, spelled, value, reader)?)),

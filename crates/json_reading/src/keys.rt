@@ -2,7 +2,7 @@
 ghost use Rattle.std.specs.Prelude.{◌≡◌, string_bytes, option_map, count_by};
 ghost use Rattle.serde_json.specs.View.{view};
 ghost use Rattle.json_reading.specs.Keys.{same_key_of, member_at, pairs_of, is_doubled, texts_of, object_of};
-ghost use Rattle.json_reading.specs.Reading.{Gives, members_of};
+ghost use Rattle.json_reading.specs.Reading.{Gives, HadMemory, members_of};
 
 use crate::refusal::{ConfigCause, ConfigRefusal};
 use serde_json::{Map, Value};
@@ -63,12 +63,14 @@ pub fn has_doubled(object: &Object, table: &[&str]) -> bool
 }
 
 /// The members of a value, of which no two stand for one key of a table: NotAnObject, DoubledKey.
+/// It takes no memory.
 pub fn members<'v>(
     alloc: Global,
     value: &'v Value,
     table: &[&str],
 ) -> Result<&'v Object, ConfigRefusal>
-    ensures { Gives (λ m. pairs_of m.now.entries) result (members_of (texts_of table.now) (view value.now)) }
+    ensures told { Gives (λ m. pairs_of m.now.entries) result (members_of (texts_of table.now) (view value.now)) }
+    ensures memory { HadMemory result }
 {
     match as_object(value) {
         None => Err(ConfigRefusal::of(alloc, ConfigCause::NotAnObject)),

@@ -1,6 +1,7 @@
 // What one value holds.
 ghost use Rattle.std.specs.Prelude.{◌≡◌};
 ghost use Rattle.serde_json.specs.View.{view};
+ghost use Rattle.json_reading.specs.Reading.{Gives, HadMemory};
 ghost use Rattle.json_reading.specs.Leaves.{GivesText, text_of, flag_of, time_of, at_most, whole_of, integer_of};
 
 use crate::fields::Reader;
@@ -146,7 +147,10 @@ impl Reader for TrueOrFalse {
 
     ghost reads = { λ reader. true_or_false };
 
-    fn read(&self, alloc: Global, value: &Value) -> Result<bool, ConfigRefusal> {
+    fn read(&self, alloc: Global, value: &Value) -> Result<bool, ConfigRefusal>
+        ensures told { Gives (λ x. x) result (true_or_false (view value.now)) }
+        ensures memory { HadMemory result }
+    {
         match flag(value) {
             Ok(flag) => Ok(flag),
             Err(cause) => Err(ConfigRefusal::of(alloc, cause)),
@@ -167,7 +171,10 @@ impl Reader for TimeUpTo {
 
     ghost reads = { λ reader. time_up_to reader.most };
 
-    fn read(&self, alloc: Global, value: &Value) -> Result<u64, ConfigRefusal> {
+    fn read(&self, alloc: Global, value: &Value) -> Result<u64, ConfigRefusal>
+        ensures told { Gives (λ x. x) result (time_up_to self.now.most (view value.now)) }
+        ensures memory { HadMemory result }
+    {
         match time(value, self.most) {
             Ok(time) => Ok(time),
             Err(cause) => Err(ConfigRefusal::of(alloc, cause)),
@@ -189,7 +196,10 @@ impl Reader for WholeBetween {
 
     ghost reads = { λ reader. whole_between reader.least reader.most };
 
-    fn read(&self, alloc: Global, value: &Value) -> Result<u64, ConfigRefusal> {
+    fn read(&self, alloc: Global, value: &Value) -> Result<u64, ConfigRefusal>
+        ensures told { Gives (λ x. x) result (whole_between self.now.least self.now.most (view value.now)) }
+        ensures memory { HadMemory result }
+    {
         match whole(value, self.least, self.most) {
             Ok(number) => Ok(number),
             Err(cause) => Err(ConfigRefusal::of(alloc, cause)),
@@ -208,7 +218,10 @@ impl Reader for AnyInteger {
 
     ghost reads = { λ reader. any_integer };
 
-    fn read(&self, alloc: Global, value: &Value) -> Result<i64, ConfigRefusal> {
+    fn read(&self, alloc: Global, value: &Value) -> Result<i64, ConfigRefusal>
+        ensures told { Gives (λ x. x) result (any_integer (view value.now)) }
+        ensures memory { HadMemory result }
+    {
         match integer(value) {
             Ok(number) => Ok(number),
             Err(cause) => Err(ConfigRefusal::of(alloc, cause)),

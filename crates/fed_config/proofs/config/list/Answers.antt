@@ -10,5 +10,5 @@ pub returns-clause-few : goal.returns-clause-few
 returns-clause-few g c =
     let read = g.R.Reader.reads c.args.reader in
     let members = pairs_of c.args.object.now.entries in
-    let is : list_at c.args.key.now read members ≡ Ok (unwrap_or c.in_ok-found.found []) = ap (λ r. r >>= λ found. Ok (unwrap_or found [])) c.in_ok-found.ensures in
+    let is : list_at c.args.key.now read members ≡ Ok (unwrap_or c.in_ok-found.found []) = ap (λ r. r >>= λ found. Ok (unwrap_or found [])) c.in_ok-found.ensures.told in
     rw (c.unwrap_or.ensures, c.new.ensures) (list_within c.args.key.now read members (unwrap_or c.in_ok-found.found []) is)
