@@ -1,36 +1,39 @@
--- The places of entries rise.
-use Rattle.std.proofs.Common.{◌≡◌, ℕ, ◌+◌, ◌≤◌, arith, Bool, true, false, cond, not, List, [], ◌∷◌, ◌++◌, map}
+-- Entries in the order of their places.
+use Rattle.std.proofs.Common.{◌≡◌, ℕ, zero, suc, ◌+◌, ◌<◌, arith, List, [], ◌∷◌, ◌++◌, length, map, not, get_or}
+use Rattle.std.specs.Prelude.{All, AllPairs}
+use Rattle.std.proofs.lemmas.List.Elements.{All-push, All-weaker, All-map}
+use Rattle.std.proofs.lemmas.List.Quantifiers.{all_pairs_push}
+use Rattle.std.proofs.lemmas.List.Kept.{AllPairs-cons, AllPairs-filter}
 use Rattle.runner_config.specs.declared.entries.Listed.{Listed}
 use Rattle.runner_config.specs.declared.reading.Entry.{Entry}
 use Rattle.runner_config.specs.declared.shape.TreeText.{TreeText}
-use Rattle.std.proofs.lemmas.List.{map-append}
-use Rattle.runner_config.specs.Entries.{Between, Rise, places_of}
-use Rattle.runner_config.specs.Runner.{is_broker_listed, federates_of, entry_in}
+use Rattle.runner_config.specs.Entries.{AreInOrder}
+use Rattle.runner_config.specs.Runner.{is_broker_listed, federates_of, entry_in, InOrder}
 
-push : (least end : ℕ) (ns : List ℕ) → Between least end ns → Between least (end + 1) (ns ++ end ∷ [])
-push least end [] h = (h, omega arith)
-push least end (n ∷ ns) h = (h.0, push (n + 1) end ns h.1)
+-- all places are below this one
+abbrev pub AreBelow : ℕ → List Listed → Type 0
+AreBelow place entries = All (λ (e : Listed). e.place < place) entries
 
 -- one more entry, at the next place
-pub push_entry : (least end : ℕ) (entries : List Listed) (e : Listed) → e.place ≡ end → Between least end (places_of entries) → Between least (end + 1) (places_of (entries ++ e ∷ []))
-push_entry least end entries e at h = rw (map-append (λ (e : Listed). e.place) entries (e ∷ []), at) (push least end (places_of entries) h)
+pub push_below : (place : ℕ) (entries : List Listed) (e : Listed) → e.place ≡ place → AreBelow place entries → AreBelow (place + 1) (entries ++ e ∷ [])
+push_below place entries e at below =
+    All-push (λ (x : Listed). x.place < place + 1) entries e
+    (All-weaker (λ (x : Listed). x.place < place) (λ (x : Listed). x.place < place + 1) (λ x lt. omega arith) entries below) (omega arith)
 
-lower : (a b : ℕ) (ns : List ℕ) → a ≤ b → Rise b ns → Rise a ns
-lower a b [] le h = tt
-lower a b (n ∷ ns) le h = let first : b ≤ n = h.0 in (omega (arith, first), h.1)
+pub push_entry : (place : ℕ) (entries : List Listed) (e : Listed) → e.place ≡ place → AreBelow place entries → AreInOrder entries → AreInOrder (entries ++ e ∷ [])
+push_entry place entries e at below before =
+    all_pairs_push (λ (x y : Listed). x.place < y.place) entries e before
+    (λ k d within. let lt : (get_or entries k d).place < place = below k d within in omega arith)
 
--- what rises below a bound rises
-pub rise_of : (least end : ℕ) (ns : List ℕ) → Between least end ns → Rise least ns
-rise_of least end [] h = tt
-rise_of least end (n ∷ ns) h = (h.0, rise_of (n + 1) end ns h.1)
+all_pairs_map : {A B : Type 0} (R : B → B → Type 0) (f : A → B) (xs : List A) → AllPairs (λ x y. R (f x) (f y)) xs → AllPairs R (map f xs)
+all_pairs_map R f [] h = λ i j d lt within. absurd (omega arith)
+all_pairs_map R f (x ∷ xs) h =
+    AllPairs-cons R (f x) (map f xs)
+    (All-map (R (f x)) f xs (λ k d within. h zero (suc k) d (omega arith) (omega arith)))
+    (all_pairs_map R f xs (λ i j d lt within. h (suc i) (suc j) d (omega arith) (omega arith)))
 
--- so do the places of the federates among entries
-pub federates_rise : (t : TreeText) (least : ℕ) (entries : List Listed) → Rise least (places_of entries)
-    → Rise least (map (λ (e : Entry). e.place) (map (entry_in t) (federates_of entries)))
-federates_rise t least [] h = tt
-federates_rise t least (e ∷ es) h = go (not (is_broker_listed e)) (federates_rise t (e.place + 1) es h.1)
-  where
-    go : (b : Bool) → Rise (e.place + 1) (map (λ (e : Entry). e.place) (map (entry_in t) (federates_of es)))
-        → Rise least (map (λ (e : Entry). e.place) (map (entry_in t) (cond b (e ∷ federates_of es) (federates_of es))))
-    go true later = (h.0, later)
-    go false later = let first : least ≤ e.place = h.0 in lower least (e.place + 1) _ (omega (arith, first)) later
+-- the federates among entries keep their order
+pub federates_in_order : (t : TreeText) (entries : List Listed) → AreInOrder entries → InOrder (map (entry_in t) (federates_of entries))
+federates_in_order t entries h =
+    all_pairs_map (λ (x y : Entry). x.place < y.place) (entry_in t) (federates_of entries)
+    (AllPairs-filter (λ (x y : Listed). x.place < y.place) (λ (e : Listed). not (is_broker_listed e)) entries h)

@@ -1,5 +1,5 @@
 -- The entries of a runner file.
-use Rattle.std.specs.Prelude.{ℕ, ◌≤◌, ◌+◌, ◌&&◌, ◌||◌, Bool, true, false, not, if◌then◌else◌, List, [], ◌∷◌, codes, map, Option, Some, None, option_map, option_and_then, unwrap_or, Result, Ok, Err}
+use Rattle.std.specs.Prelude.{ℕ, ◌<◌, ◌+◌, ◌&&◌, ◌||◌, Bool, true, false, not, if◌then◌else◌, List, [], ◌∷◌, codes, AllPairs, Option, Some, None, option_map, option_and_then, unwrap_or, Result, Ok, Err}
 use Rattle.std.specs.Option.{option_map_or}
 use Rattle.std.specs.Str.{bytes_eq}
 use Rattle.serde_json.specs.Data.{Data, Items, no_items, item}
@@ -87,17 +87,8 @@ abbrev pub has_federate : Items → Bool
 has_federate no_items = false
 has_federate (item value more) = not (is_broker_entry value) || has_federate more
 
--- numbers strictly rise, from this one on
-abbrev pub Rise : ℕ → List ℕ → Type 0
-Rise least [] = Unit {0}
-Rise least (n ∷ ns) = (least ≤ n) × Rise (n + 1) ns
-
 -- ---- what the code keeps
 
--- numbers strictly rise, from the first bound on and below the second
-abbrev pub Between : ℕ → ℕ → List ℕ → Type 0
-Between least end [] = least ≤ end
-Between least end (n ∷ ns) = (least ≤ n) × Between (n + 1) end ns
-
-abbrev pub places_of : List Listed → List ℕ
-places_of entries = map (λ (e : Listed). e.place) entries
+-- each entry's place is below those of the later ones
+abbrev pub AreInOrder : List Listed → Type 0
+AreInOrder entries = AllPairs (λ (e later : Listed). e.place < later.place) entries

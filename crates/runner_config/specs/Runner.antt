@@ -1,5 +1,5 @@
 -- A runner file.
-use Rattle.std.specs.Prelude.{ℕ, Bool, false, not, if◌then◌else◌, List, [], ◌∷◌, length, map, filter, find, count_by, codes, Option, Some, None, option_and_then, unwrap_or, Ok, Err, ⊤}
+use Rattle.std.specs.Prelude.{ℕ, ◌<◌, AllPairs, Bool, false, not, if◌then◌else◌, List, [], ◌∷◌, length, map, filter, find, count_by, codes, Option, Some, None, option_and_then, unwrap_or, Ok, Err, ⊤}
 use Rattle.serde_json.specs.Data.{Data, Items}
 use Rattle.serde_json.specs.Find.{as_array}
 use Rattle.json_reading.specs.Keys.{Member, object_of, json_of}
@@ -13,7 +13,7 @@ use Rattle.runner_config.specs.declared.reading.Entry.{Entry}
 use Rattle.runner_config.specs.declared.reading.Runner.{Runner}
 use Rattle.runner_config.specs.Told.{Told, ◌>>=◌, or_refused, refused_where}
 use Rattle.runner_config.specs.Counts.{is_broker, counts_other}
-use Rattle.runner_config.specs.Entries.{sole_at, has_federate, entries_from, Rise}
+use Rattle.runner_config.specs.Entries.{sole_at, has_federate, entries_from}
 use Rattle.runner_config.specs.Shape.{tree_of}
 use Rattle.runner_config.specs.Nodes.{names_of, core_of, cause_of, nodes_of}
 
@@ -80,6 +80,6 @@ runner_of bytes = or_refused NotJson (json_of bytes) >>= runner_in
 abbrev pub tree_with : Runner → Tree
 tree_with r = record { nodes = r.nodes; cores = map (λ (e : Entry). e.core) r.entries }
 
--- the places of entries strictly rise
+-- each entry's place in the file is below those of the later ones
 abbrev pub InOrder : List Entry → Type 0
-InOrder entries = Rise 0 (map (λ (e : Entry). e.place) entries)
+InOrder entries = AllPairs (λ (e later : Entry). e.place < later.place) entries

@@ -1,5 +1,5 @@
 //! A broker's words: that they are one's, and the federates that it counts (docs/FORMATS.md, Broker).
-ghost use Rattle.std.specs.Prelude.{◌≡◌, ◌<◌, ◌^◌, nat_eq, codes, option_map};
+ghost use Rattle.std.specs.Prelude.{◌≡◌, nat_eq, codes, option_map};
 ghost use Rattle.std.specs.List.{list_all, ends_with};
 ghost use Rattle.runner_config.specs.Counts.{is_broker_word, is_broker, is_digit, is_digits, is_other, after, count_at, counts_other};
 
@@ -42,13 +42,13 @@ fn is_digits(text: &str) -> bool
 // Whether digits spell another number.
 #[tactic(auto, using(crate::proofs::Growing::above))]
 fn is_other(count: u64, digits: &str) -> bool
-    requires { count < 2 ^ 32 }
     ensures { result ≡ is_other count digits.now }
 {
+    let count = u128::from(count);
     let mut number = 0;
     let mut rest = digits.as_bytes();
     while let [digit, behind @ ..] = rest {
-        number = 10 * number + u64::from(digit.saturating_sub(b'0'));
+        number = 10 * number + u128::from(digit.saturating_sub(b'0'));
         if number > count {
             return true;
         }
@@ -85,7 +85,6 @@ fn count_at<'w>(word: &'w str, behind: &'w [Text]) -> &'w str
 
 /// Whether one of a broker's words counts other federates than so many.
 pub fn counts_other(count: u64, words: &[Text]) -> bool
-    requires { count < 2 ^ 32 }
     ensures { result ≡ counts_other count words.now }
 {
     let mut rest = words;

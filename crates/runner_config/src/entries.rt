@@ -1,5 +1,5 @@
 //! The entries of a runner file (docs/FORMATS.md, Runner file).
-ghost use Rattle.std.specs.Prelude.{◌≡◌, ◌<◌, ◌≤◌, ◌^◌, ◌||◌, IfOk, false, length, option_map, unwrap_or};
+ghost use Rattle.std.specs.Prelude.{◌≡◌, ◌||◌, IfOk, false, option_map, unwrap_or};
 ghost use Rattle.std.specs.Option.{option_copied};
 ghost use Rattle.serde_json.specs.View.{view, items_view};
 ghost use Rattle.json_reading.specs.Keys.{pairs_of};
@@ -7,7 +7,7 @@ ghost use Rattle.json_reading.specs.Reading.{Gives as GivesRead};
 ghost use Rattle.runner_config.specs.Told.{Gives};
 ghost use Rattle.runner_config.specs.Counts.{is_broker};
 ghost use Rattle.runner_config.specs.Fields.{fields_of};
-ghost use Rattle.runner_config.specs.Entries.{sole_at, fields_at, words_in, is_local, config_in, config_of, entry_of, is_broker_entry, has_federate, single_entry, entries_from, Rise, places_of};
+ghost use Rattle.runner_config.specs.Entries.{sole_at, fields_at, words_in, is_local, config_in, config_of, entry_of, is_broker_entry, has_federate, single_entry, entries_from, AreInOrder};
 
 use crate::counts::is_broker;
 use crate::refusal::RunnerRefusal;
@@ -33,7 +33,7 @@ pub struct EntryFields {
 /// An entry, a broker's too, with its place in the file's list.
 #[derive(Drop)]
 pub struct Listed {
-    pub place: u32,
+    pub place: u64,
     pub name: Text,
     pub words: Items<Text>,
     pub directory: Text,
@@ -76,7 +76,7 @@ fn fields(alloc: Global, value: &Value) -> Result<EntryFields, ConfigRefusal>
     })
 }
 
-fn fields_at(alloc: Global, place: u32, value: &Value) -> Result<EntryFields, RunnerRefusal>
+fn fields_at(alloc: Global, place: u64, value: &Value) -> Result<EntryFields, RunnerRefusal>
     ensures { Gives (λ f. f) result (fields_at place (fields_of (view value.now))) }
 {
     match fields(alloc, value) {
@@ -89,7 +89,7 @@ fn fields_at(alloc: Global, place: u32, value: &Value) -> Result<EntryFields, Ru
 }
 
 // The words of `exec`, at least one.
-fn words_in(alloc: Global, place: u32, exec: Option<Text>) -> Result<Items<Text>, RunnerRefusal>
+fn words_in(alloc: Global, place: u64, exec: Option<Text>) -> Result<Items<Text>, RunnerRefusal>
     ensures { Gives (λ w. w) result (words_in place exec) }
 {
     let Some(exec) = exec else {
@@ -149,7 +149,7 @@ fn text_or(alloc: Global, text: Option<Text>, other: &str) -> Result<Text, OutOf
 }
 
 #[tactic(auto, unfolding(crate::specs::Entries::entry_of))]
-fn entry(alloc: Global, place: u32, value: &Value) -> Result<Listed, RunnerRefusal>
+fn entry(alloc: Global, place: u64, value: &Value) -> Result<Listed, RunnerRefusal>
     ensures place { IfOk result (λ e. e.place ≡ place) }
     ensures told { Gives (λ e. e) result (entry_of place (view value.now)) }
 {
@@ -216,7 +216,7 @@ pub fn has_federate(alloc: Global, list: &[Value]) -> Result<bool, OutOfMemory>
 fn single_entry(
     alloc: Global,
     met: bool,
-    place: u32,
+    place: u64,
     value: &Value,
 ) -> Result<Listed, RunnerRefusal>
     ensures place { IfOk result (λ e. e.place ≡ place) }
@@ -237,15 +237,13 @@ fn has_met(met: bool, entry: &Listed) -> bool
 
 /// All entries in order, of which one may be a broker's.
 pub fn entries(alloc: Global, list: &[Value]) -> Result<Items<Listed>, RunnerRefusal>
-    requires { length list.now < 2 ^ 32 }
     ensures told { Gives (λ all. all) result (entries_from false 0 (items_view list.now)) }
-    ensures few { IfOk result (λ all. length all ≤ length list.now) }
-    ensures places { IfOk result (λ all. Rise 0 (places_of all)) }
+    ensures places { IfOk result AreInOrder }
 {
     let mut found = Items::new(alloc);
     let mut met = false;
     for (place, value) in list.iter().enumerate() {
-        let entry = match single_entry(alloc, met, place as u32, value) {
+        let entry = match single_entry(alloc, met, place as u64, value) {
             Ok(entry) => entry,
             Err(refusal) => return Err(refusal),
         };

@@ -1,11 +1,11 @@
 //! A runner file, read whole (docs/FORMATS.md, Runner file).
-ghost use Rattle.std.specs.Prelude.{◌≡◌, ◌<◌, ◌^◌, IfOk, IfSome, None, length, map, option_map};
+ghost use Rattle.std.specs.Prelude.{◌≡◌, ◌<◌, IfOk, None, length, map, option_map};
 ghost use Rattle.serde_json.specs.View.{view, items_view};
 ghost use Rattle.json_reading.specs.Keys.{pairs_of};
 ghost use Rattle.federation_plan.specs.Tree.{IsValid};
 ghost use Rattle.runner_config.specs.Told.{Gives, Answers};
 ghost use Rattle.runner_config.specs.Nodes.{IsNodes, cause_of};
-ghost use Rattle.runner_config.specs.Entries.{Rise, places_of};
+ghost use Rattle.runner_config.specs.Entries.{AreInOrder};
 ghost use Rattle.runner_config.specs.Runner.{federates_of, federate_count, check_count, list_of, entry_in, runner_with, runner_in, runner_of, tree_with, InOrder};
 
 use crate::counts::{counts_other, is_broker};
@@ -32,7 +32,7 @@ pub struct Entry {
     /// The path of its federate file, where the entry says one.
     pub config: Option<Text>,
     /// The entry's place in the file's list, from 0.
-    pub place: u32,
+    pub place: u64,
 }
 
 /// What a runner file says: the nodes of the tree by their numbers, and the entries of the federates,
@@ -87,7 +87,7 @@ fn runner_with(alloc: Global, nodes: &Nodes, entries: Items<Listed>) -> Result<R
     requires is { IsNodes nodes.now }
     requires cores { 0 < length nodes.now.tree.cores }
     requires fits { cause_of nodes.now.tree entries ≡ None }
-    requires places { Rise 0 (places_of entries) }
+    requires places { AreInOrder entries }
     ensures is { IfOk result (λ r. r ≡ runner_with nodes.now.tree entries) }
     ensures valid { IfOk result (λ r. IsValid (tree_with r)) }
     ensures places { IfOk result (λ r. InOrder r.entries) }
@@ -102,8 +102,7 @@ fn runner_with(alloc: Global, nodes: &Nodes, entries: Items<Listed>) -> Result<R
 
 // The list of federates.
 fn list_of(alloc: Global, object: &Object) -> Result<Option<&[Value]>, OutOfMemory>
-    ensures list { IfOk result (λ list. option_map (λ vs. items_view vs.now) list ≡ list_of (pairs_of object.now.entries)) }
-    ensures few { IfOk result (λ list. IfSome list (λ vs. length vs.now < 2 ^ 32)) }
+    ensures { IfOk result (λ list. option_map (λ vs. items_view vs.now) list ≡ list_of (pairs_of object.now.entries)) }
 {
     let Some(value) = sole(object, "federates") else {
         return Ok(None);
@@ -111,9 +110,6 @@ fn list_of(alloc: Global, object: &Object) -> Result<Option<&[Value]>, OutOfMemo
     let Some(list) = value.as_array() else {
         return Ok(None);
     };
-    if list.len() > u32::MAX as usize {
-        return Err(OutOfMemory);
-    }
     if has_federate(alloc, list.as_slice())? {
         Ok(Some(list.as_slice()))
     } else {
@@ -132,7 +128,6 @@ fn federate_count(entries: &[Listed]) -> usize
 
 // Whether the broker, where there is one, counts as many federates as there are.
 fn check_count(entries: &[Listed]) -> Result<(), RunnerRefusal>
-    requires { length entries.now < 2 ^ 32 }
     ensures { result ≡ check_count entries.now }
 {
     let count = federate_count(entries) as u64;

@@ -12,17 +12,17 @@ pub enum RunnerRefusal {
     /// There is no single list of federates, or it has no entry but brokers.
     NoFederates,
     /// An entry is no object, has a key twice, or another value than a text at a key.
-    BadEntry(u32),
-    MissingName(u32),
+    BadEntry(u64),
+    MissingName(u64),
     /// An entry has no `exec`, or one without a word.
-    MissingExec(u32),
-    UnclosedQuote(u32),
-    HostNotLocal(u32),
+    MissingExec(u64),
+    UnclosedQuote(u64),
+    HostNotLocal(u64),
     /// An entry is the second broker.
-    TwoBrokers(u32),
+    TwoBrokers(u64),
     BadTree(TreeCause),
     /// The broker's entry, at this place, counts other federates than there are.
-    BrokerCount(u32),
+    BrokerCount(u64),
     OutOfMemory,
 }
 

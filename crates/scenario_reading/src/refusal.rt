@@ -26,7 +26,7 @@ pub enum Refusal {
     /// The entry at this place of the runner file has no federate file.
     NoConfig {
         path: Text,
-        place: u32,
+        place: u64,
     },
     /// What a federate file says, at a place in it.
     Config {
@@ -134,7 +134,7 @@ fn beside(alloc: Global, first: &str, second: &str) -> Result<String, OutOfMemor
 }
 
 // A path, and the place of an entry in the file.
-fn at_place(alloc: Global, path: &str, place: u32) -> Result<String, OutOfMemory>
+fn at_place(alloc: Global, path: &str, place: u64) -> Result<String, OutOfMemory>
     ensures { IfOk result (λ text. string_bytes text ≡ at_place path.now place) }
 {
     Ok(format!(in alloc; "{path} {place}")?)
@@ -174,7 +174,7 @@ fn runner_name(refusal: &RunnerRefusal) -> &'static str
 }
 
 // The place of the entry that is refused, where it is one.
-fn place_in(refusal: &RunnerRefusal) -> Option<u32>
+fn place_in(refusal: &RunnerRefusal) -> Option<u64>
     ensures { result ≡ place_in refusal.now }
 {
     match *refusal {

@@ -1,12 +1,12 @@
-use Rattle.std.proofs.Common.{◌≡◌, ◌∙◌, ℕ, ◌+◌, ◌<◌, ◌≤◌, suc, sym, ap, arith, Bool, false, ◌||◌, List, [], ◌∷◌, ◌++◌, length, length-append, drop, add-one}
+use Rattle.std.proofs.Common.{◌≡◌, ◌∙◌, ℕ, ◌+◌, ◌<◌, ◌≤◌, suc, sym, ap, arith, Bool, false, ◌||◌, List, [], ◌∷◌, ◌++◌, length, drop, add-one}
 use Rattle.serde_json.specs.declared.value.Value.{Value}
 use Rattle.serde_json.specs.View.{view, items_view}
 use Rattle.json_reading.proofs.Fronts.{drop-all}
 use Rattle.runner_config.specs.declared.entries.Listed.{Listed}
 use Rattle.runner_config.specs.Counts.{is_broker}
-use Rattle.runner_config.specs.Entries.{entries_from, Between, places_of}
+use Rattle.runner_config.specs.Entries.{entries_from, AreInOrder}
 use Rattle.runner_config.proofs.Fronts.{with_front, kept, stopped, entries_end, next_value}
-use Rattle.runner_config.proofs.Ascending.{push_entry, rise_of}
+use Rattle.runner_config.proofs.Ascending.{AreBelow, push_below, push_entry}
 use Rattle.runner_config.proofs.entries.entries.Goals as goal
 
 pub returns-in-Err-clause-told : goal.returns-in-Err-clause-told
@@ -31,11 +31,10 @@ loop-place-preserved c =
     (next_value vs i c.index-list-place.result lt c.index-list-place.is) c.loop-place.invariant.rest c.in-Ok.ensures.told in
     let rest : with_front (xs ++ e ∷ []) (entries_from (met || is_broker e.words) (i + 1) (items_view (drop (i + 1) vs))) ≡ all =
     ap (λ (n : ℕ). with_front (xs ++ e ∷ []) (entries_from (met || is_broker e.words) (i + 1) (items_view (drop n vs)))) (add-one i) ∙ later in
-    let one : length (e ∷ []) ≡ 1 = omega arith in
-    let count : length (xs ++ e ∷ []) ≡ i + 1 = length-append xs (e ∷ []) ∙ omega (arith, c.loop-place.invariant.count, one) in
-    let places : Between 0 (i + 1) (places_of (xs ++ e ∷ [])) = push_entry 0 i xs e c.in-Ok.ensures.place c.loop-place.invariant.places in
+    let below : AreBelow (i + 1) (xs ++ e ∷ []) = push_below i xs e c.in-Ok.ensures.place c.loop-place.invariant.below in
+    let places : AreInOrder (xs ++ e ∷ []) = push_entry i xs e c.in-Ok.ensures.place c.loop-place.invariant.below c.loop-place.invariant.places in
     record {
-      count = rw c.in_ok-push.ensures.ok count;
+      below = rw c.in_ok-push.ensures.ok below;
       places = rw c.in_ok-push.ensures.ok places;
       rest = rw (c.in_ok-push.ensures.ok, c.has_met-met.ensures) rest;
     }
@@ -49,6 +48,3 @@ returns-clause-told c =
     sym c.loop-place.invariant.rest
     ∙ ap (λ (us : List Value). with_front xs (entries_from c.loop-place.met i (items_view us))) (drop-all i vs past)
     ∙ entries_end c.loop-place.met xs i
-
-pub returns-clause-places : goal.returns-clause-places
-returns-clause-places c = rise_of 0 c.loop-place.place (places_of c.loop-place.found) c.loop-place.invariant.places
