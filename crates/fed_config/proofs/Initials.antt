@@ -1,6 +1,6 @@
 -- Before a federate enters, its file lets it publish and send alone.
 use Rattle.std.proofs.Common.{◌≡◌, ℕ, ◌+◌, refl, subst, List, [], ◌∷◌, Option, Some, None, Result, Ok, Err, decimal, codes}
-use Rattle.std.specs.Prelude.{unwrap_or}
+use Rattle.std.specs.Prelude.{unwrap_or, ok_or}
 use Rattle.serde_json.specs.Data.{Data, Items, no_items, item}
 use Rattle.serde_json.specs.Find.{as_array}
 use Rattle.hel_values.specs.declared.Value.{Value}
@@ -8,9 +8,9 @@ use Rattle.fed_script.specs.Script.{IsInitial}
 use Rattle.fed_script.specs.declared.action.Action.{Action}
 use Rattle.fed_script.specs.declared.action.Action.TheVariants as actions
 use Rattle.json_reading.specs.Keys.{Member, member_at}
-use Rattle.json_reading.specs.Reading.{Read, ◌>>=◌, here, under, at_optional, optional_at, at_needed, any_items, each_from, list_of}
+use Rattle.json_reading.specs.Reading.{Read, ◌>>=◌, here, under, at_optional, optional_at, at_needed, each_from, list_of}
 use Rattle.json_reading.specs.declared.refusal.ConfigCause.{ConfigCause}
-use Rattle.json_reading.specs.declared.refusal.ConfigCause.TheVariants.{UnknownWord}
+use Rattle.json_reading.specs.declared.refusal.ConfigCause.TheVariants.{NotAList, UnknownWord}
 use Rattle.fed_config.specs.Scripts.{Known, head_of, publishing_of, sending_of, not_allowed, initial_by, initial_of}
 use Rattle.fed_config.specs.declared.verbs.Verb.{Verb}
 use Rattle.fed_config.specs.declared.verbs.Verb.TheVariants.{Publish, PublishSum, Send, Echo, Request, Advance, Iterate, Finish, Fail, Repeat}
@@ -67,7 +67,7 @@ from_place known i (item d ds) xs e = go (initial_of known d) (each_from (initia
         let same : a ∷ more ≡ xs = cc in subst IsInitial same (leads known d a is more (later more refl))
 
 in_list : (known : Known) (d : Data) (xs : List Action) → list_of (initial_of known) d ≡ Ok xs → IsInitial xs
-in_list known d xs e = go (any_items (as_array d)) e
+in_list known d xs e = go (ok_or (as_array d) NotAList) e
   where
     go : (r : Result Items ConfigCause) → (here r >>= λ items. each_from (initial_of known) 0 items) ≡ Ok xs → IsInitial xs
     go (Ok items) e = from_place known 0 items xs e

@@ -1,7 +1,11 @@
 -- A table of places that is filled from the last name to the first.
 use Rattle.std.proofs.Common.{◌≡◌, ◌∙◌, ℕ, suc, ◌<◌, cond, ap, sym, List, ◌∷◌, length, drop, map, get_or, drop-cons, add-one, Option, Some}
 use Rattle.std.specs.Str.{bytes_eq}
-use Rattle.fed_config.specs.Places.{place_from}
+use Rattle.std.specs.List.{position_from}
+
+-- the first place of a name among names, of which the first has this place
+abbrev pub place_from : ℕ → List (List ℕ) → List ℕ → Option ℕ
+place_from place names name = position_from (λ other. bytes_eq other name) place names
 
 -- one name before those that have their places
 pub one_before : {A : Type 0} (name_of : A → List ℕ) (xs : List A) (i : ℕ) (x : A) (key q : List ℕ) (old new : Option ℕ)

@@ -1,5 +1,5 @@
 -- The filters of a federate file.
-use Rattle.std.specs.Prelude.{ℕ, ◌+◌, ◌-◌, ◌^◌, Bool, false, List, [], ◌∷◌, codes, decimal, if◌then◌else◌, Option, Some, None, option_and_then, unwrap_or, Ok, Err, ⊤}
+use Rattle.std.specs.Prelude.{ℕ, ◌+◌, ◌-◌, ◌^◌, Bool, false, List, [], ◌∷◌, codes, decimal, if◌then◌else◌, Option, Some, None, option_and_then, unwrap_or, ok_or, Ok, Err, ⊤}
 use Rattle.std.specs.Option.{option_or, option_map_or}
 use Rattle.std.specs.Str.{bytes_eq}
 use Rattle.serde_json.specs.Data.{Data, array, object, Items, no_items, item}
@@ -64,10 +64,6 @@ property_in name read (object members) =
     if is_named name (object members) then (value_at read (object members) >>= λ x. Ok (Some x)) else Ok None
 property_in name read _ = Ok None
 
-abbrev pub given : {A : Type 0} → List ℕ → Option A → Read A
-given name None = Err (below name (refused [] Missing))
-given name (Some x) = Ok x
-
 -- the key under which properties stand, and what stands there; without it there are none
 abbrev pub properties_at : Option Member → Member
 properties_at None = (codes "properties", array no_items)
@@ -77,7 +73,8 @@ abbrev pub optional_property : {A : Type 0} → List ℕ → (Data → Read A) �
 optional_property name read properties = under properties.0 (property_in name read properties.1)
 
 abbrev pub needed_property : {A : Type 0} → List ℕ → (Data → Read A) → Member → Read A
-needed_property name read properties = under properties.0 (property_in name read properties.1 >>= λ found. given name found)
+needed_property name read properties =
+    under properties.0 (property_in name read properties.1 >>= λ found. ok_or found (below name (refused [] Missing)))
 
 -- ---- filters
 

@@ -1,7 +1,6 @@
 -- The scripts of a federate file.
-use Rattle.std.specs.Prelude.{ℕ, zero, suc, ◌+◌, Bool, true, false, List, [], ◌∷◌, ◌++◌, map, codes, decimal, length, nat_lt, if◌then◌else◌, Option, option_map, unwrap_or, Result, Ok, Err, ⊤}
-use Rattle.serde_json.specs.Data.{Num, Data, number, Items, no_items, item}
-use Rattle.serde_json.specs.Find.{as_array}
+use Rattle.std.specs.Prelude.{ℕ, zero, suc, ◌+◌, Bool, true, false, List, [], ◌∷◌, map, flat_map, codes, length, nat_lt, if◌then◌else◌, Option, option_map, unwrap_or, ok_or, Result, Ok, Err, ⊤}
+use Rattle.serde_json.specs.Data.{Num, Data, number}
 use Rattle.helics_time.specs.Time.{max_time}
 use Rattle.iteration_rules.specs.declared.Mode.{Mode}
 use Rattle.iteration_rules.specs.declared.Mode.TheVariants.{Force, IfNeeded}
@@ -14,8 +13,8 @@ use Rattle.fed_script.specs.declared.word.Word.TheVariants as words
 use Rattle.fed_script.specs.declared.action.Action.{Action}
 use Rattle.fed_script.specs.declared.action.Action.TheVariants as actions
 use Rattle.json_reading.specs.Keys.{Member, is_doubled}
-use Rattle.json_reading.specs.Reading.{Read, ◌>>=◌, here, under, members_of, optional_at, needed_at, list_of, any_items}
-use Rattle.json_reading.specs.Leaves.{or_cause, any_text, text_up_to, time_up_to, whole_between, any_integer}
+use Rattle.json_reading.specs.Reading.{Read, ◌>>=◌, here, members_of, optional_at, needed_at, list_of}
+use Rattle.json_reading.specs.Leaves.{any_text, text_up_to, time_up_to, whole_between, any_integer}
 use Rattle.json_reading.specs.declared.refusal.ConfigCause.{ConfigCause}
 use Rattle.json_reading.specs.declared.refusal.ConfigCause.TheVariants.{NotANumber, UnknownWord, DoubledKey, TooManySteps, TooDeep}
 use Rattle.fed_config.specs.Words.{word_in}
@@ -62,7 +61,7 @@ known_of f = record {
 
 -- the number of an interface by its name
 abbrev pub number_by : (List ℕ → Option ℕ) → Data → Read ℕ
-number_by numbers value = any_text value >>= λ name. here (or_cause UnknownWord (numbers name))
+number_by numbers value = any_text value >>= λ name. here (ok_or (numbers name) UnknownWord)
 
 abbrev pub place_below : ℕ → Num → Result ℕ ConfigCause
 place_below count (Num.unsigned n) = if nat_lt n count then Ok n else Err UnknownWord
@@ -202,16 +201,13 @@ words_of known may body members Repeat = repeat_of may body members
 unfoldable pub action_of : Known → Bool → (Data → Read (List Word)) → Data → Read (List Word)
 action_of known may body value = head_of value >>= λ h. words_of known may body h.0 h.1
 
--- the words of actions, one after another, the first at this place
-unfoldable pub words_from : (Data → Read (List Word)) → ℕ → Items → Read (List Word)
-words_from read place no_items = Ok []
-words_from read place (item value more) = do
-  first ← under (decimal place) (read value)
-  others ← words_from read (place + 1) more
-  Ok (first ++ others)
+-- the words of actions, one after another
+abbrev pub joined : Read (List (List Word)) → Read (List Word)
+joined read = read >>= λ parts. Ok (flat_map (λ part. part) parts)
 
+-- the words of a list of actions
 abbrev pub words_in : (Data → Read (List Word)) → Data → Read (List Word)
-words_in read value = here (any_items (as_array value)) >>= λ items. words_from read 0 items
+words_in read value = joined (list_of read value)
 
 -- a list of actions, in which repeats are nested less deeply than this
 unfoldable pub body_of : Known → ℕ → Data → Read (List Word)

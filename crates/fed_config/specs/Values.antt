@@ -1,5 +1,5 @@
 -- What a script publishes and sends.
-use Rattle.std.specs.Prelude.{ℕ, List, [], ◌∷◌, codes, length, nat_lt, if◌then◌else◌, Result, Ok, Err}
+use Rattle.std.specs.Prelude.{ℕ, List, [], ◌∷◌, codes, Result, Ok, Err}
 use Rattle.serde_json.specs.Data.{Num, Data, number, string, object}
 use Rattle.hex.specs.Hex.{decode_of}
 use Rattle.hex.specs.declared.FromHexError.{FromHexError}
@@ -9,27 +9,23 @@ use Rattle.hel_values.specs.declared.Value.TheVariants.{Int, Text, Bytes}
 use Rattle.json_reading.specs.Reading.{Read, ◌>>=◌, here, members_of, needed_at}
 use Rattle.json_reading.specs.Leaves.{text_of, few_bytes, signed_number, text_up_to}
 use Rattle.json_reading.specs.declared.refusal.ConfigCause.{ConfigCause}
-use Rattle.json_reading.specs.declared.refusal.ConfigCause.TheVariants.{NotAText, NotANumber, OutOfRange, BadHex}
+use Rattle.json_reading.specs.declared.refusal.ConfigCause.TheVariants.{NotAText, NotANumber, BadHex}
 
 -- bytes that are read of a text in hex
 abbrev pub few_decoded : Result (List ℕ) FromHexError → Result (List ℕ) ConfigCause
-few_decoded (Ok bytes) = if nat_lt data_limit (length bytes) then Err OutOfRange else Ok bytes
+few_decoded (Ok bytes) = few_bytes data_limit bytes
 few_decoded (Err bad) = Err BadHex
-
-abbrev pub decoded : Result (List ℕ) ConfigCause → Result (List ℕ) ConfigCause
-decoded (Ok text) = few_decoded (decode_of text)
-decoded (Err cause) = Err cause
 
 -- a text with two hexadecimal digits for each byte
 abbrev pub hex_text : Data → Read (List ℕ)
-hex_text value = here (decoded (text_of value))
+hex_text value = here (text_of value >>= λ text. few_decoded (decode_of text))
 
 -- bytes: an object with such a text
 abbrev pub hex_object : Data → Read (List ℕ)
 hex_object value = members_of (codes "hex" ∷ []) value >>= λ members. needed_at (codes "hex") hex_text members
 
 abbrev pub short_text : List ℕ → Read (List ℕ)
-short_text text = here (few_bytes data_limit (Ok text))
+short_text text = here (few_bytes data_limit text)
 
 -- an integer, a text, or bytes
 abbrev pub value_of : Data → Read Value

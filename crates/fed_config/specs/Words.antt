@@ -1,27 +1,23 @@
 -- The words that stand for kinds of values and for what a filter does.
-use Rattle.std.specs.Prelude.{ℕ, List, [], ◌∷◌, codes, find, Option, Some, None, option_map, Result, Ok, Err}
+use Rattle.std.specs.Prelude.{ℕ, List, [], ◌∷◌, codes, Option, Some, None, ok_or}
+use Rattle.std.specs.Map.{lookup}
 use Rattle.std.specs.Str.{bytes_eq}
 use Rattle.serde_json.specs.Data.{Data}
 use Rattle.hel_values.specs.declared.ValueKind.{ValueKind}
 use Rattle.hel_values.specs.declared.ValueKind.TheVariants.{Int, Text, Bytes}
-use Rattle.json_reading.specs.Reading.{Read, here}
-use Rattle.json_reading.specs.Leaves.{or_cause, text_of}
-use Rattle.json_reading.specs.declared.refusal.ConfigCause.{ConfigCause}
+use Rattle.json_reading.specs.Reading.{Read, ◌>>=◌, here}
+use Rattle.json_reading.specs.Leaves.{text_of}
 use Rattle.json_reading.specs.declared.refusal.ConfigCause.TheVariants.{UnknownWord}
 use Rattle.fed_config.specs.declared.words.Operation.{Operation}
 use Rattle.fed_config.specs.declared.words.Operation.TheVariants.{Delay, RandomDrop, Reroute}
 
 -- what a word of a table stands for
 abbrev pub named_in : {A : Type 0} → List (List ℕ × A) → List ℕ → Option A
-named_in table word = option_map (λ row. row.1) (find (λ row. bytes_eq row.0 word) table)
-
-abbrev pub word_of : {A : Type 0} → (List ℕ → Option A) → Result (List ℕ) ConfigCause → Result A ConfigCause
-word_of meaning (Ok word) = or_cause UnknownWord (meaning word)
-word_of meaning (Err cause) = Err cause
+named_in table word = lookup (λ row. bytes_eq row word) table
 
 -- a word of a table
 abbrev pub word_in : {A : Type 0} → List (List ℕ × A) → Data → Read A
-word_in table value = here (word_of (named_in table) (text_of value))
+word_in table value = here (text_of value >>= λ word. ok_or (named_in table word) UnknownWord)
 
 abbrev pub kinds : List (List ℕ × ValueKind)
 kinds =

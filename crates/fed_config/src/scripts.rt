@@ -2,11 +2,11 @@
 ghost use Rattle.std.specs.Prelude.{◌≡◌, ◌<◌, ◌++◌, true, nat_lt, codes, IfOk, IfSome, OnOk};
 ghost use Rattle.serde_json.specs.View.{view, items_view};
 ghost use Rattle.json_reading.specs.Keys.{pairs_of};
-ghost use Rattle.json_reading.specs.Reading.{Read, Gives, needed_at};
+ghost use Rattle.json_reading.specs.Reading.{Read, Gives, needed_at, each_from};
 ghost use Rattle.fed_script.specs.Script.{NamesTime, IsCourse};
 ghost use Rattle.fed_script.specs.declared.word.Word.{Word as ScriptWord};
 ghost use Rattle.fed_config.specs.Names.{known, step_words, StepNamesTime};
-ghost use Rattle.fed_config.specs.Scripts.{head_of, publishing_of, sending_of, publish_of, publish_sum_of, send_of, echo_of, request_of, advance_of, iterate_of, fail_of, one, repeat_of, action_of, words_in, words_from, body_of, script_words, not_allowed, initial_of, script_of};
+ghost use Rattle.fed_config.specs.Scripts.{head_of, publishing_of, sending_of, publish_of, publish_sum_of, send_of, echo_of, request_of, advance_of, iterate_of, fail_of, one, repeat_of, action_of, joined, words_in, body_of, script_words, not_allowed, initial_of, script_of};
 
 use crate::names::{InputBelow, Names, NumberIn};
 use crate::values::{DataReader, FailureReader, ValueReader};
@@ -256,7 +256,7 @@ fn each_action(
     list: &[Json],
     left: u32,
 ) -> Result<Words, ConfigRefusal>
-    ensures { Gives (λ w. w) result (words_from (action_of (known names.now) (nat_lt 0 left) (body_of (known names.now) left)) 0 (items_view list.now)) }
+    ensures { Gives (λ w. w) result (joined (each_from (action_of (known names.now) (nat_lt 0 left) (body_of (known names.now) left)) 0 (items_view list.now))) }
 {
     let mut found = Words::new(alloc);
     for (place, value) in list.iter().enumerate() {

@@ -1,5 +1,5 @@
 -- What one JSON value holds.
-use Rattle.std.specs.Prelude.{◌≡◌, ℕ, ◌*◌, ◌^◌, Bool, List, [], ◌∷◌, length, nat_lt, if◌then◌else◌, Option, Some, None, ℤ, pos, Result, Ok, Err}
+use Rattle.std.specs.Prelude.{◌≡◌, ℕ, ◌*◌, ◌^◌, Bool, List, [], ◌∷◌, length, nat_lt, if◌then◌else◌, ok_or, ℤ, pos, Result, Ok, Err}
 use Rattle.std.specs.Borrow.{Bor}
 use Rattle.serde_json.specs.Data.{Num, Data, number, string, array, Items}
 use Rattle.serde_json.specs.Find.{as_u64, as_str, as_bool}
@@ -7,34 +7,22 @@ use Rattle.serde_json.specs.View.{items_view}
 use Rattle.serde_json.specs.declared.value.Value.{Value}
 use Rattle.helics_time.specs.declared.parse.TimeText.{TimeText}
 use Rattle.helics_time.specs.Spelled as spelled
-use Rattle.json_reading.specs.Reading.{Read, here, each_from}
+use Rattle.json_reading.specs.Reading.{Read, ◌>>=◌, here, each_from}
 use Rattle.json_reading.specs.declared.refusal.ConfigCause.{ConfigCause}
 use Rattle.json_reading.specs.declared.refusal.ConfigCause.TheVariants.{NotAText, NotABool, NotATime, Time, NotANumber, OutOfRange}
 
-abbrev pub or_cause : {A : Type 0} → ConfigCause → Option A → Result A ConfigCause
-or_cause cause None = Err cause
-or_cause cause (Some x) = Ok x
-
 abbrev pub text_of : Data → Result (List ℕ) ConfigCause
-text_of value = or_cause NotAText (as_str value)
+text_of value = ok_or (as_str value) NotAText
 
--- a text of at most so many bytes
-abbrev pub few_bytes : ℕ → Result (List ℕ) ConfigCause → Result (List ℕ) ConfigCause
-few_bytes most (Ok text) = if nat_lt most (length text) then Err OutOfRange else Ok text
-few_bytes most (Err cause) = Err cause
-
-abbrev pub short_text_of : ℕ → Data → Result (List ℕ) ConfigCause
-short_text_of most value = few_bytes most (text_of value)
+-- at most so many bytes
+abbrev pub few_bytes : ℕ → List ℕ → Result (List ℕ) ConfigCause
+few_bytes most bytes = if nat_lt most (length bytes) then Err OutOfRange else Ok bytes
 
 abbrev pub flag_of : Data → Result Bool ConfigCause
-flag_of value = or_cause NotABool (as_bool value)
+flag_of value = ok_or (as_bool value) NotABool
 
 abbrev pub at_most : ℕ → ℕ → Result ℕ ConfigCause
 at_most most n = if nat_lt most n then Err OutOfRange else Ok n
-
-abbrev pub seconds : ℕ → Option ℕ → Result ℕ ConfigCause
-seconds most None = Err NotATime
-seconds most (Some n) = at_most most (n * 1000000000)
 
 abbrev pub spelled_time : ℕ → Result ℕ TimeText → Result ℕ ConfigCause
 spelled_time most (Ok t) = at_most most t
@@ -42,7 +30,7 @@ spelled_time most (Err refusal) = Err (Time refusal)
 
 -- a time of at most so many nanoseconds: a whole number of seconds, or a text of a time
 abbrev pub time_of : ℕ → Data → Result ℕ ConfigCause
-time_of most (number n) = seconds most (as_u64 n)
+time_of most (number n) = ok_or (as_u64 n) NotATime >>= λ seconds. at_most most (seconds * 1000000000)
 time_of most (string text) = spelled_time most (spelled.time_of text)
 time_of most _ = Err NotATime
 
@@ -72,7 +60,7 @@ abbrev pub any_text : Data → Read (List ℕ)
 any_text value = here (text_of value)
 
 abbrev pub text_up_to : ℕ → Data → Read (List ℕ)
-text_up_to most value = here (short_text_of most value)
+text_up_to most value = here (text_of value >>= few_bytes most)
 
 abbrev pub true_or_false : Data → Read Bool
 true_or_false value = here (flag_of value)

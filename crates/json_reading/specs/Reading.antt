@@ -1,5 +1,6 @@
 -- Reading a JSON value: what it holds, or the first refusal with its place.
-use Rattle.std.specs.Prelude.{ℕ, ◌≡◌, ◌≢◌, IfErr, ◌+◌, ◌⊎◌, List, [], ◌∷◌, ◌++◌, decimal, nat_lt, if◌then◌else◌, Option, Some, None, Result, Ok, Err}
+use Rattle.std.specs.Prelude.{ℕ, ◌≡◌, ◌≢◌, IfErr, ◌+◌, ◌⊎◌, List, [], ◌∷◌, ◌++◌, decimal, nat_lt, if◌then◌else◌, Option, Some, None, ok_or, Result, Ok, Err}
+use Rattle.std.specs.Option.{option_or}
 use Rattle.serde_json.specs.Data.{Data, Items, no_items, item}
 use Rattle.serde_json.specs.Find.{as_array}
 use Rattle.json_reading.specs.Keys.{Member, member_at, object_of, is_doubled}
@@ -11,8 +12,9 @@ use Rattle.json_reading.specs.declared.refusal.ConfigRefusal.{ConfigRefusal}
 abbrev pub Read : Type 0 → Type 0
 Read A = Result A ConfigRefusal
 
+-- what comes next where there is no refusal yet
 infixl 10 ◌>>=◌
-abbrev pub ◌>>=◌ : {A B : Type 0} → Read A → (A → Read B) → Read B
+abbrev pub ◌>>=◌ : {A B E : Type 0} → Result A E → (A → Result B E) → Result B E
 (Ok x) >>= f = f x
 (Err e) >>= f = Err e
 
@@ -37,13 +39,10 @@ under step (Err e) = Err (below step e)
 
 -- ---- objects
 
-abbrev pub checked_members : List (List ℕ) → Option (List Member) → Result (List Member) ConfigCause
-checked_members table None = Err NotAnObject
-checked_members table (Some members) = if is_doubled table members then Err DoubledKey else Ok members
-
 -- the members of an object, of which no two stand for one key of a table
 abbrev pub members_of : List (List ℕ) → Data → Read (List Member)
-members_of table value = here (checked_members table (object_of value))
+members_of table value =
+    here (ok_or (object_of value) NotAnObject >>= λ members. if is_doubled table members then Err DoubledKey else Ok members)
 
 -- what is read at a member, where there is one
 abbrev pub at_optional : {A : Type 0} → (Data → Read A) → Option Member → Read (Option A)
@@ -56,12 +55,8 @@ at_needed key read None = Err (below key (refused [] Missing))
 at_needed key read (Some m) = under m.0 (read m.1)
 
 -- the first of two keys that stands there
-abbrev pub either : Option Member → Option Member → Option Member
-either (Some m) other = Some m
-either None other = other
-
 abbrev pub either_member : List ℕ → List ℕ → List Member → Option Member
-either_member key other members = either (member_at key members) (member_at other members)
+either_member key other members = option_or (member_at key members) (member_at other members)
 
 abbrev pub optional_at : {A : Type 0} → List ℕ → (Data → Read A) → List Member → Read (Option A)
 optional_at key read members = at_optional read (member_at key members)
@@ -92,16 +87,11 @@ item_count (item value more) = item_count more + 1
 
 -- a list of at most so many items
 abbrev pub few_items : ℕ → Option Items → Result Items ConfigCause
-few_items most None = Err NotAList
-few_items most (Some items) = if nat_lt most (item_count items) then Err OutOfRange else Ok items
-
-abbrev pub any_items : Option Items → Result Items ConfigCause
-any_items None = Err NotAList
-any_items (Some items) = Ok items
+few_items most list = ok_or list NotAList >>= λ items. if nat_lt most (item_count items) then Err OutOfRange else Ok items
 
 -- a list, each item read so
 abbrev pub list_of : {A : Type 0} → (Data → Read A) → Data → Read (List A)
-list_of read value = here (any_items (as_array value)) >>= λ items. each_from read 0 items
+list_of read value = here (ok_or (as_array value) NotAList) >>= λ items. each_from read 0 items
 
 -- a list of at most so many items, each read so
 abbrev pub list_up_to : {A : Type 0} → ℕ → (Data → Read A) → Data → Read (List A)

@@ -1,7 +1,8 @@
 // Lists.
-ghost use Rattle.std.specs.Prelude.{◌≡◌, decimal, [], ◌∷◌, Ok};
+ghost use Rattle.std.specs.Prelude.{◌≡◌, decimal, [], ◌∷◌, ok_or, Ok};
 ghost use Rattle.serde_json.specs.View.{view, items_view};
-ghost use Rattle.json_reading.specs.Reading.{Gives, Stands, below, each_from, any_items, few_items};
+ghost use Rattle.json_reading.specs.Reading.{Gives, Stands, below, each_from, few_items};
+ghost use Rattle.json_reading.specs.declared.refusal.ConfigCause.TheVariants.{NotAList};
 ghost use Rattle.json_reading.specs.Leaves.{GivesItems};
 ghost use Rattle.serde_json.specs.Find.{as_array};
 
@@ -63,7 +64,7 @@ where
 
 /// The items of a list: NotAList.
 pub fn items(value: &Value) -> Result<&[Value], ConfigCause>
-    ensures { GivesItems result (any_items (as_array (view value.now))) }
+    ensures { GivesItems result (ok_or (as_array (view value.now)) NotAList) }
 {
     match value.as_array() {
         None => Err(ConfigCause::NotAList),

@@ -3,10 +3,11 @@ use Rattle.std.proofs.Common.{◌≡◌, ◌∙◌, ◌⊎◌, inl, inr, ℕ, �
 use Rattle.serde_json.specs.Data.{Data, Items, no_items, item}
 use Rattle.serde_json.specs.View.{view, items_view}
 use Rattle.serde_json.specs.declared.value.Value.{Value}
+use Rattle.json_reading.specs.Reading.{◌>>=◌}
 use Rattle.runner_config.specs.declared.refusal.RunnerRefusal.{RunnerRefusal}
 use Rattle.runner_config.specs.declared.refusal.RunnerRefusal.TheVariants.{OutOfMemory}
 use Rattle.runner_config.specs.declared.entries.Listed.{Listed}
-use Rattle.runner_config.specs.Told.{Told, ◌>>=◌}
+use Rattle.runner_config.specs.Told.{Told}
 use Rattle.runner_config.specs.Counts.{is_broker}
 use Rattle.runner_config.specs.Entries.{single_entry, entries_from}
 

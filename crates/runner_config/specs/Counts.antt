@@ -1,9 +1,9 @@
 -- A broker's words, and the federates that it counts: `-f N`, `-fN`, `--federates N` or `--federates=N`.
-use Rattle.std.specs.Prelude.{ℕ, ◌==◌, ◌&&◌, ◌||◌, Bool, false, not, nat_eq, nat_le, if◌then◌else◌, List, [], ◌∷◌, length, drop, codes, Option, Some, None, unwrap_or}
+use Rattle.std.specs.Prelude.{ℕ, ◌==◌, ◌&&◌, ◌||◌, Bool, false, not, nat_eq, if◌then◌else◌, List, [], ◌∷◌, length, drop, codes, Option, Some, None, unwrap_or}
 use Rattle.std.specs.Option.{option_or}
 use Rattle.std.specs.List.{list_all, starts_with, ends_with}
 use Rattle.std.specs.Str.{bytes_eq}
-use Rattle.helics_time.specs.Spelled.{number_of}
+use Rattle.helics_time.specs.Spelled.{is_digit, number_of}
 
 abbrev pub is_broker_word : List ℕ → Bool
 is_broker_word word = bytes_eq word (codes "helics_broker") || ends_with nat_eq word (codes "/helics_broker")
@@ -12,9 +12,6 @@ is_broker_word word = bytes_eq word (codes "helics_broker") || ends_with nat_eq 
 abbrev pub is_broker : List (List ℕ) → Bool
 is_broker [] = false
 is_broker (word ∷ words) = is_broker_word word
-
-abbrev pub is_digit : ℕ → Bool
-is_digit c = nat_le 48 c && nat_le c 57
 
 abbrev pub is_digits : List ℕ → Bool
 is_digits text = not (length text == 0) && list_all is_digit text

@@ -1,15 +1,15 @@
 -- The entries of a runner file.
-use Rattle.std.specs.Prelude.{ℕ, ◌<◌, ◌+◌, ◌&&◌, ◌||◌, Bool, true, false, not, if◌then◌else◌, List, [], ◌∷◌, codes, AllPairs, Option, Some, None, option_map, option_and_then, unwrap_or, Result, Ok, Err}
+use Rattle.std.specs.Prelude.{ℕ, ◌<◌, ◌+◌, ◌&&◌, ◌||◌, Bool, true, false, not, if◌then◌else◌, List, [], ◌∷◌, codes, AllPairs, Option, Some, None, option_map, option_and_then, unwrap_or, ok_or, Result, Ok, Err}
 use Rattle.std.specs.Option.{option_map_or}
 use Rattle.std.specs.Str.{bytes_eq}
 use Rattle.serde_json.specs.Data.{Data, Items, no_items, item}
 use Rattle.serde_json.specs.Find.{as_str}
 use Rattle.json_reading.specs.Keys.{Member, member_at, object_of, is_doubled}
-use Rattle.json_reading.specs.Reading.{Read}
+use Rattle.json_reading.specs.Reading.{Read, ◌>>=◌}
 use Rattle.runner_config.specs.declared.refusal.RunnerRefusal.TheVariants.{BadEntry, MissingName, MissingExec, UnclosedQuote, HostNotLocal, TwoBrokers}
 use Rattle.runner_config.specs.declared.entries.EntryFields.{EntryFields}
 use Rattle.runner_config.specs.declared.entries.Listed.{Listed}
-use Rattle.runner_config.specs.Told.{Told, ◌>>=◌, or_refused, refused_where}
+use Rattle.runner_config.specs.Told.{Told, refused_where}
 use Rattle.runner_config.specs.Splitting.{words_of}
 use Rattle.runner_config.specs.Counts.{is_broker}
 use Rattle.runner_config.specs.Fields.{fields_of}
@@ -51,7 +51,7 @@ config_of None words = config_in words
 unfoldable pub entry_of : ℕ → Data → Told Listed
 entry_of place value = do
   fields ← fields_at place (fields_of value)
-  name ← or_refused (MissingName place) fields.name
+  name ← ok_or fields.name (MissingName place)
   words ← words_in place fields.exec
   host ← refused_where (not (is_local fields.host)) (HostNotLocal place)
   Ok (record {

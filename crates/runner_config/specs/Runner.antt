@@ -1,8 +1,9 @@
 -- A runner file.
-use Rattle.std.specs.Prelude.{ℕ, ◌<◌, AllPairs, Bool, false, not, if◌then◌else◌, List, [], ◌∷◌, length, map, filter, find, count_by, codes, Option, Some, None, option_and_then, unwrap_or, Ok, Err, ⊤}
+use Rattle.std.specs.Prelude.{ℕ, ◌<◌, AllPairs, Bool, false, not, if◌then◌else◌, List, [], ◌∷◌, length, map, filter, find, count_by, codes, Option, Some, None, option_and_then, unwrap_or, ok_or, Ok, Err, ⊤}
 use Rattle.serde_json.specs.Data.{Data, Items}
 use Rattle.serde_json.specs.Find.{as_array}
 use Rattle.json_reading.specs.Keys.{Member, object_of, json_of}
+use Rattle.json_reading.specs.Reading.{◌>>=◌}
 use Rattle.federation_plan.specs.declared.tree.Tree.{Tree}
 use Rattle.runner_config.specs.declared.refusal.TreeCause.{TreeCause}
 use Rattle.runner_config.specs.declared.refusal.TreeCause.TheVariants.{Shape}
@@ -11,7 +12,7 @@ use Rattle.runner_config.specs.declared.entries.Listed.{Listed}
 use Rattle.runner_config.specs.declared.shape.TreeText.{TreeText}
 use Rattle.runner_config.specs.declared.reading.Entry.{Entry}
 use Rattle.runner_config.specs.declared.reading.Runner.{Runner}
-use Rattle.runner_config.specs.Told.{Told, ◌>>=◌, or_refused, refused_where}
+use Rattle.runner_config.specs.Told.{Told, refused_where}
 use Rattle.runner_config.specs.Counts.{is_broker, counts_other}
 use Rattle.runner_config.specs.Entries.{sole_at, has_federate, entries_from}
 use Rattle.runner_config.specs.Shape.{tree_of}
@@ -64,17 +65,17 @@ runner_with t entries = record { nodes = nodes_of t; entries = map (entry_in t) 
 -- what a runner file says
 unfoldable pub runner_in : Data → Told Runner
 runner_in value = do
-  members ← or_refused NotAnObject (object_of value)
-  list ← or_refused NoFederates (list_of members)
+  members ← ok_or (object_of value) NotAnObject
+  list ← ok_or (list_of members) NoFederates
   entries ← entries_from false 0 list
-  tree ← or_refused (BadTree Shape) (tree_of members)
+  tree ← ok_or (tree_of members) (BadTree Shape)
   fits ← no_cause (cause_of tree entries)
   right ← check_count entries
   Ok (runner_with tree entries)
 
 -- what the bytes of a runner file say, or the first refusal
 unfoldable pub runner_of : List ℕ → Told Runner
-runner_of bytes = or_refused NotJson (json_of bytes) >>= runner_in
+runner_of bytes = ok_or (json_of bytes) NotJson >>= runner_in
 
 -- the tree with the core of each entry
 abbrev pub tree_with : Runner → Tree

@@ -1,20 +1,10 @@
 -- What a runner file says, or the first refusal.
-use Rattle.std.specs.Prelude.{◌≡◌, ◌⊎◌, Bool, if◌then◌else◌, Option, Some, None, Result, Ok, Err, ⊤}
+use Rattle.std.specs.Prelude.{◌≡◌, ◌⊎◌, Bool, if◌then◌else◌, Result, Ok, Err, ⊤}
 use Rattle.runner_config.specs.declared.refusal.RunnerRefusal.{RunnerRefusal}
 use Rattle.runner_config.specs.declared.refusal.RunnerRefusal.TheVariants.{OutOfMemory}
 
 abbrev pub Told : Type 0 → Type 0
 Told A = Result A RunnerRefusal
-
-infixl 10 ◌>>=◌
-abbrev pub ◌>>=◌ : {A B : Type 0} → Told A → (A → Told B) → Told B
-(Ok x) >>= f = f x
-(Err e) >>= f = Err e
-
--- what is there, else this refusal
-abbrev pub or_refused : {A : Type 0} → RunnerRefusal → Option A → Told A
-or_refused refusal None = Err refusal
-or_refused refusal (Some x) = Ok x
 
 abbrev pub refused_where : Bool → RunnerRefusal → Told ⊤
 refused_where bad refusal = if bad then Err refusal else Ok tt

@@ -1,7 +1,8 @@
 //! A broker's words: that they are one's, and the federates that it counts (docs/FORMATS.md, Broker).
 ghost use Rattle.std.specs.Prelude.{◌≡◌, nat_eq, codes, option_map};
 ghost use Rattle.std.specs.List.{list_all, ends_with};
-ghost use Rattle.runner_config.specs.Counts.{is_broker_word, is_broker, is_digit, is_digits, is_other, after, count_at, counts_other};
+ghost use Rattle.helics_time.specs.Spelled.{is_digit};
+ghost use Rattle.runner_config.specs.Counts.{is_broker_word, is_broker, is_digits, is_other, after, count_at, counts_other};
 
 use hel_lists::Text;
 

@@ -7,8 +7,8 @@ use Rattle.json_reading.specs.Reading.{Read}
 use Rattle.json_reading.specs.declared.refusal.ConfigCause.TheVariants.{OutOfMemory}
 use Rattle.json_reading.proofs.Fronts.{drop-all}
 use Rattle.fed_config.specs.Names.{known, step_words}
-use Rattle.fed_config.specs.Scripts.{Known, action_of, body_of, words_from}
-use Rattle.fed_config.proofs.Bodies.{with_words, words_ok, words_end, words_stop, moved}
+use Rattle.fed_config.specs.Scripts.{Known, action_of, body_of}
+use Rattle.fed_config.proofs.Bodies.{with_words, words_from, words_ok, words_end, words_stop, moved}
 use Rattle.fed_config.proofs.scripts.+script.Goals as goal
 
 abbrev reads : Known → ℕ → Data → Read (List Word)

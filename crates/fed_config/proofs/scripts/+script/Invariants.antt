@@ -1,8 +1,8 @@
 use Rattle.std.proofs.Common.{◌≡◌, ◌*◌, ◌+◌, drop, nat_lt}
 use Rattle.serde_json.specs.View.{items_view}
 use Rattle.fed_config.specs.Names.{known}
-use Rattle.fed_config.specs.Scripts.{action_of, body_of, words_from}
-use Rattle.fed_config.proofs.Bodies.{with_words}
+use Rattle.fed_config.specs.Scripts.{action_of, body_of}
+use Rattle.fed_config.proofs.Bodies.{with_words, words_from}
 use Rattle.fed_config.proofs.scripts.+script.Given as goal
 
 abbrev pub decreases-words : goal.decreases-words

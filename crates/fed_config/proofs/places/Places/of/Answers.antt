@@ -1,8 +1,7 @@
 use Rattle.std.proofs.Common.{arith, ◌≡◌, ◌∙◌, ℕ, suc, ◌-◌, ◌<◌, List, length, map, drop, subst, Some, string_bytes}
 use Rattle.std.specs.HashMap.{get_by_text}
 use Rattle.std.proofs.lemmas.Map.Text.{hash_map_updates_text}
-use Rattle.fed_config.specs.Places.{place_from}
-use Rattle.fed_config.proofs.OneBefore.{one_before}
+use Rattle.fed_config.proofs.OneBefore.{place_from, one_before}
 use Rattle.fed_config.proofs.places.Places.of.Goals as goal
 
 pub loop-place-preserved : goal.loop-place-preserved

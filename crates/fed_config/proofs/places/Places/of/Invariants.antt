@@ -1,6 +1,6 @@
 use Rattle.std.proofs.Common.{◌≡◌, ◌≤◌, ℕ, List, length, drop, map}
 use Rattle.std.specs.HashMap.{get_by_text}
-use Rattle.fed_config.specs.Places.{place_from}
+use Rattle.fed_config.proofs.OneBefore.{place_from}
 use Rattle.fed_config.proofs.places.Places.of.Given as goal
 
 abbrev pub invariant-loop-place : goal.invariant-loop-place
