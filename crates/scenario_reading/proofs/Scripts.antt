@@ -1,13 +1,14 @@
 -- Scripts, where each federate has one.
 use Rattle.std.proofs.Common.{◌≡◌, ◌+◌, ℕ, suc, List, [], ◌∷◌, ◌++◌, length, Option, Some, None, IfSome, Ok, ap, refl, subst, sym, inl, inr, ◌∙◌}
 use Rattle.std.specs.Bool.{⊤}
-use Rattle.std.specs.Option.{option_map}
+use Rattle.std.specs.List.{position_from}
+use Rattle.std.specs.Option.{is_none, option_map}
 use Rattle.hel_lists.specs.Members.{Each}
 use Rattle.fed_script.specs.Script.{Course, IsCourse}
 use Rattle.interface_names.specs.declared.records.FederateRecord.{FederateRecord}
 use Rattle.scenario_reading.specs.declared.refusal.Refusal.{Refusal}
 use Rattle.scenario_reading.specs.Verdict.{Verdict, unrefused}
-use Rattle.scenario_reading.specs.Fitting.{federate_name, first_missing, script_refusal, scripts_in}
+use Rattle.scenario_reading.specs.Fitting.{federate_name, script_refusal, scripts_in}
 use Rattle.scenario_reading.proofs.Names.{passed}
 
 -- one more script, and one more federate without
@@ -22,7 +23,7 @@ passed_over (None ∷ scripts) = passed_over scripts
 passed_over (Some x ∷ scripts) = ap (λ (l : List Course). x ∷ l) (passed_over scripts)
 
 -- none is missing
-pub all_there : (f : ℕ) (scripts : List (Option Course)) → first_missing f scripts ≡ None → length (scripts_in scripts) ≡ length scripts
+pub all_there : (f : ℕ) (scripts : List (Option Course)) → position_from is_none f scripts ≡ None → length (scripts_in scripts) ≡ length scripts
 all_there f [] e = refl
 all_there f (None ∷ scripts) e = absurd (cc)
 all_there f (Some s ∷ scripts) e = ap suc (all_there (f + 1) scripts e)
@@ -44,5 +45,5 @@ none_before f (Some x) e = absurd (cc)
 pub as_many : (feds : List FederateRecord) (given scripts : List (Option Course)) (all : List Course)
     → ◌≡◌ {A = Verdict ⊤} (unrefused (script_refusal feds given)) (Ok tt) → given ≡ scripts → all ≡ scripts_in scripts → length all ≡ length scripts
 as_many feds given scripts all says is are =
-    let none = none_before (λ (f : ℕ). Refusal.NoScript (federate_name feds f)) (first_missing 0 given) (passed (script_refusal feds given) tt tt says) in
-    ap length are ∙ all_there 0 scripts (subst (λ (ss : List (Option Course)). first_missing 0 ss ≡ None) is none)
+    let none = none_before (λ (f : ℕ). Refusal.NoScript (federate_name feds f)) (position_from is_none 0 given) (passed (script_refusal feds given) tt tt says) in
+    ap length are ∙ all_there 0 scripts (subst (λ (ss : List (Option Course)). position_from is_none 0 ss ≡ None) is none)

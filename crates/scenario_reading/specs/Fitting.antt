@@ -1,8 +1,8 @@
 -- What the files of a federation set up, and what speaks against it, first to last: its tree, its names, its plan,
 -- and for a run that a federate has no script.
-use Rattle.std.specs.Prelude.{ℕ, ◌+◌, Bool, true, false, ◌||◌, nat_lt, if◌then◌else◌, List, [], ◌∷◌, ◌++◌, map, count_by, slice_get, Option, Some, None, Ok}
-use Rattle.std.specs.List.{list_any, filter_map}
-use Rattle.std.specs.Option.{option_map, option_map_or, option_or, option_and_then}
+use Rattle.std.specs.Prelude.{ℕ, Bool, true, false, ◌||◌, nat_lt, if◌then◌else◌, List, [], ◌∷◌, ◌++◌, map, count_by, slice_get, Option, Some, None, Ok}
+use Rattle.std.specs.List.{list_any, filter_map, position_from}
+use Rattle.std.specs.Option.{is_none, option_map, option_map_or, option_or, option_and_then}
 use Rattle.hel_values.specs.declared.EndRef.{EndRef}
 use Rattle.fed_script.specs.Script.{Course}
 use Rattle.interface_names.specs.declared.records.PubRecord.{PubRecord}
@@ -10,6 +10,7 @@ use Rattle.interface_names.specs.declared.records.EndRecord.{EndRecord}
 use Rattle.interface_names.specs.declared.records.FederateRecord.{FederateRecord}
 use Rattle.interface_names.specs.Names.{global_name_of}
 use Rattle.interface_names.specs.Registry.{refusal_of}
+use Rattle.json_reading.specs.Reading.{◌>>=◌}
 use Rattle.fed_config.specs.declared.config.FederateConfig.{FederateConfig}
 use Rattle.federation_plan.specs.declared.refusal.PlanRefusal.{PlanRefusal}
 use Rattle.federation_plan.specs.declared.tree.NodeKind.{NodeKind}
@@ -22,7 +23,7 @@ use Rattle.runner_config.specs.Runner.{tree_with}
 use Rattle.scenario_reading.specs.declared.refusal.Refusal.{Refusal}
 use Rattle.scenario_reading.specs.declared.scene.Setting.{Setting}
 use Rattle.scenario_reading.specs.declared.scene.Scenario.{Scenario}
-use Rattle.scenario_reading.specs.Verdict.{Verdict, ◌>>=◌, unless_refused, unrefused}
+use Rattle.scenario_reading.specs.Verdict.{Verdict, unless_refused, unrefused}
 
 -- what is read: the federates, the tree, and each federate's script
 pub record Scene (S : Type 0) : Type 0 where
@@ -109,14 +110,9 @@ plan_refusal feds = option_and_then (plan_told feds) (plan.refusal_of feds)
 
 -- ---- scripts
 
--- the number of the first federate without a script, where the first has this number
-abbrev pub first_missing : ℕ → List (Option Course) → Option ℕ
-first_missing f [] = None
-first_missing f (None ∷ scripts) = Some f
-first_missing f (Some script ∷ scripts) = first_missing (f + 1) scripts
-
+-- the first federate without a script
 abbrev pub script_refusal : List FederateRecord → List (Option Course) → Option Refusal
-script_refusal feds scripts = option_map (λ f. Refusal.NoScript (federate_name feds f)) (first_missing 0 scripts)
+script_refusal feds scripts = option_map (λ f. Refusal.NoScript (federate_name feds f)) (position_from is_none 0 scripts)
 
 -- the scripts that there are
 abbrev pub scripts_in : List (Option Course) → List Course

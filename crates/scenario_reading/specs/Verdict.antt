@@ -7,11 +7,6 @@ use Rattle.scenario_reading.specs.declared.unread.Unread.TheVariants.{FileFault,
 abbrev pub Verdict : Type 0 → Type 0
 Verdict A = Result A Refusal
 
-infixl 10 ◌>>=◌
-abbrev pub ◌>>=◌ : {A B : Type 0} → Verdict A → (A → Verdict B) → Verdict B
-(Ok x) >>= f = f x
-(Err r) >>= f = Err r
-
 abbrev pub unless_refused : {A : Type 0} → Option Refusal → A → Verdict A
 unless_refused None x = Ok x
 unless_refused (Some refusal) x = Err refusal

@@ -1,13 +1,13 @@
 //! What the files of a federation set up, and what speaks against it (docs/FORMATS.md, Order of reading).
 ghost use Rattle.std.specs.Prelude.{◌≡◌, [], ◌∷◌, ◌++◌, length, count_by, slice_get, IfOk, IfSome, OnOk};
-ghost use Rattle.std.specs.List.{list_any};
-ghost use Rattle.std.specs.Option.{option_copied};
+ghost use Rattle.std.specs.List.{list_any, position_from};
+ghost use Rattle.std.specs.Option.{is_none, option_copied};
 ghost use Rattle.hel_lists.specs.Members.{Each};
 ghost use Rattle.fed_script.specs.Script.{IsCourse};
 ghost use Rattle.federation_plan.specs.Tree.{IsValid};
 ghost use Rattle.runner_config.specs.Runner.{tree_with};
 ghost use Rattle.scenario_reading.specs.Verdict.{Says, unless_refused, unrefused, nothing};
-ghost use Rattle.scenario_reading.specs.Fitting.{setting_seen, scenario_seen, federates_of, scripts_of, cores_of, is_broker, is_core, is_deep, tree_refusal, join_refusal, names_refusal, name_in, publication_in, endpoint_in, publication_name, endpoint_name, plan_told, plan_refusal, first_missing, script_refusal, scripts_in, setting_of, scenario_of};
+ghost use Rattle.scenario_reading.specs.Fitting.{setting_seen, scenario_seen, federates_of, scripts_of, cores_of, is_broker, is_core, is_deep, tree_refusal, join_refusal, names_refusal, name_in, publication_in, endpoint_in, publication_name, endpoint_name, plan_told, plan_refusal, script_refusal, scripts_in, setting_of, scenario_of};
 
 use crate::refusal::Refusal;
 use crate::scene::{Scenario, Setting};
@@ -269,7 +269,7 @@ pub fn setting_of(
 // ---- scripts
 
 fn first_missing(scripts: &[Option<Script>]) -> Option<usize>
-    ensures { result ≡ first_missing 0 scripts.now }
+    ensures { result ≡ position_from is_none 0 scripts.now }
 {
     for (f, script) in scripts.iter().enumerate() {
         if script.is_none() {

@@ -1,6 +1,7 @@
 use Rattle.std.proofs.Common.{◌≡◌, drop}
-use Rattle.scenario_reading.specs.Fitting.{first_missing}
+use Rattle.std.specs.List.{position_from}
+use Rattle.std.specs.Option.{is_none}
 use Rattle.scenario_reading.proofs.fitting.first_missing.Given as goal
 
 abbrev pub invariant-loop-f : goal.invariant-loop-f
-invariant-loop-f l = first_missing l.f (drop l.f l.scripts) ≡ first_missing 0 l.scripts
+invariant-loop-f l = position_from is_none l.f (drop l.f l.scripts) ≡ position_from is_none 0 l.scripts
