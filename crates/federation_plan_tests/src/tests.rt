@@ -1,5 +1,6 @@
-ghost use Rattle.std.specs.Prelude.{ℕ, List, IfOk};
+ghost use Rattle.std.specs.Prelude.{ℕ, List, IfOk, IfSome};
 ghost use Rattle.interface_names.specs.Filter.{KeepsBounds};
+ghost use Rattle.federation_plan.specs.Interfaces.{IsEndpoint};
 
 mod build;
 mod calls;
@@ -8,14 +9,18 @@ mod reach;
 mod trees;
 
 use federation_plan::{NodeKind, NodeRow, Plan, PlanRefusal, Tree};
-use hel_lists::{Items, Text};
+use hel_lists::{Copied, Items, Text};
 use hel_values::{EndRef, ValueKind};
 use helics_time::Settings;
 use interface_names::{
     EndRecord, FederateRecord, FilterKind, FilterRecord, InputRecord, PubRecord, Registry,
 };
 use std::alloc::Global;
+use std::process::Abort;
 use std::test::Fail;
+
+// A proof grows faster than its function, with each value that is dropped, each `?` and each message. So
+// the functions here are short: one makes the values, another looks at them and has one assertion.
 
 // Federates are written as text, one a line: the name, behind `~` where it waits for current updates,
 // and its interfaces. `p` and `p:t` are publications of numbers and of texts; `<A/p` and `<t:A/p` are
@@ -116,66 +121,136 @@ fn filter_kind(word: &str) -> Result<FilterKind, Fail>
     Err(Fail::from("filter"))
 }
 
-fn filter(alloc: Global, word: &str, at_source: bool) -> Result<FilterRecord, Fail> {
-    let (end, what) = word.split_once(':').ok_or("filter")?;
-    let ends = names(alloc, end)?;
-    let mut filter = FilterRecord {
+fn rerouting(alloc: Global, ends: Items<Text>, name: &str) -> Result<FilterRecord, Fail> {
+    let kind = FilterKind::Reroute(text(alloc, name)?);
+    Ok(FilterRecord {
+        name: None,
+        source_of: ends,
+        destination_of: Items::new(alloc),
+        kind,
+    })
+}
+
+fn at_source(alloc: Global, ends: Items<Text>, what: &str) -> Result<FilterRecord, Fail> {
+    let kind = filter_kind(what)?;
+    Ok(FilterRecord {
+        name: None,
+        source_of: ends,
+        destination_of: Items::new(alloc),
+        kind,
+    })
+}
+
+fn at_destination(alloc: Global, ends: Items<Text>, what: &str) -> Result<FilterRecord, Fail> {
+    let kind = filter_kind(what)?;
+    Ok(FilterRecord {
         name: None,
         source_of: Items::new(alloc),
-        destination_of: Items::new(alloc),
-        kind: FilterKind::Delay(0),
-    };
+        destination_of: ends,
+        kind,
+    })
+}
+
+fn filter_at(
+    alloc: Global,
+    ends: Items<Text>,
+    what: &str,
+    is_source: bool,
+) -> Result<FilterRecord, Fail> {
     if let Some(name) = what.strip_prefix('>') {
-        let name = text(alloc, name)?;
-        filter.source_of = ends;
-        filter.kind = FilterKind::Reroute(name);
-        return Ok(filter);
-    }
-    let kind = filter_kind(what)?;
-    if at_source {
-        filter.source_of = ends;
+        rerouting(alloc, ends, name)
+    } else if is_source {
+        at_source(alloc, ends, what)
     } else {
-        filter.destination_of = ends;
+        at_destination(alloc, ends, what)
     }
-    filter.kind = kind;
-    Ok(filter)
+}
+
+fn filter(alloc: Global, word: &str, is_source: bool) -> Result<FilterRecord, Fail> {
+    let (end, what) = word.split_once(':').ok_or("filter")?;
+    filter_at(alloc, names(alloc, end)?, what, is_source)
+}
+
+fn push_input(
+    alloc: Global,
+    inputs: &mut Items<InputRecord>,
+    word: &str,
+    required: bool,
+) -> Result<(), Fail> {
+    let input = input(alloc, word, required)?;
+    inputs.push(input)?;
+    Ok(())
+}
+
+fn push_endpoint(alloc: Global, ends: &mut Items<EndRecord>, word: &str) -> Result<(), Fail> {
+    let end = endpoint(alloc, word)?;
+    ends.push(end)?;
+    Ok(())
+}
+
+fn push_filter(
+    alloc: Global,
+    filters: &mut Items<FilterRecord>,
+    word: &str,
+    is_source: bool,
+) -> Result<(), Fail> {
+    let filter = filter(alloc, word, is_source)?;
+    filters.push(filter)?;
+    Ok(())
+}
+
+fn push_publication(
+    alloc: Global,
+    publications: &mut Items<PubRecord>,
+    word: &str,
+) -> Result<(), Fail> {
+    let publication = publication(alloc, word)?;
+    publications.push(publication)?;
+    Ok(())
 }
 
 fn push(alloc: Global, record: &mut FederateRecord, word: &str) -> Result<(), Fail> {
     if let Some(input_word) = word.strip_prefix('<') {
-        record.inputs.push(input(alloc, input_word, false)?)?;
+        push_input(alloc, &mut record.inputs, input_word, false)
     } else if let Some(input_word) = word.strip_prefix('!') {
-        record.inputs.push(input(alloc, input_word, true)?)?;
+        push_input(alloc, &mut record.inputs, input_word, true)
     } else if let Some(end) = word.strip_prefix('@') {
-        record.endpoints.push(endpoint(alloc, end)?)?;
+        push_endpoint(alloc, &mut record.endpoints, end)
     } else {
-        push_other(alloc, record, word)?;
+        push_other(alloc, record, word)
     }
-    Ok(())
 }
 
 fn push_other(alloc: Global, record: &mut FederateRecord, word: &str) -> Result<(), Fail> {
     if let Some(filter_word) = word.strip_prefix('+') {
-        record.filters.push(filter(alloc, filter_word, true)?)?;
+        push_filter(alloc, &mut record.filters, filter_word, true)
     } else if let Some(filter_word) = word.strip_prefix('-') {
-        record.filters.push(filter(alloc, filter_word, false)?)?;
+        push_filter(alloc, &mut record.filters, filter_word, false)
     } else {
-        record.publications.push(publication(alloc, word)?)?;
+        push_publication(alloc, &mut record.publications, word)
     }
-    Ok(())
 }
 
-fn named(alloc: Global, word: &str) -> Result<FederateRecord, Fail> {
-    let wait = word.starts_with('~');
-    let name = word.strip_prefix('~').unwrap_or(word);
-    Ok(FederateRecord {
-        name: text(alloc, name)?,
-        settings: Settings::of(0, 0, 0, 0, 0, false, wait, 50).ok_or("settings")?,
+fn settings(wait: bool) -> Result<Settings, Fail> {
+    let settings = Settings::of(0, 0, 0, 0, 0, false, wait, 50).ok_or("settings")?;
+    Ok(settings)
+}
+
+fn without_interfaces(alloc: Global, name: Text, settings: Settings) -> FederateRecord {
+    FederateRecord {
+        name,
+        settings,
         publications: Items::new(alloc),
         inputs: Items::new(alloc),
         endpoints: Items::new(alloc),
         filters: Items::new(alloc),
-    })
+    }
+}
+
+fn named(alloc: Global, word: &str) -> Result<FederateRecord, Fail> {
+    let wait = word.starts_with('~');
+    let name = text(alloc, word.strip_prefix('~').unwrap_or(word))?;
+    Ok(without_interfaces(alloc, name, settings(wait)?))
 }
 
 fn federate(alloc: Global, line: &str) -> Result<FederateRecord, Fail> {
@@ -187,11 +262,16 @@ fn federate(alloc: Global, line: &str) -> Result<FederateRecord, Fail> {
     Ok(record)
 }
 
+fn enter(alloc: Global, registry: &mut Registry, line: &str) -> Result<(), Fail> {
+    let record = federate(alloc, line)?;
+    registry.add(record).ok().ok_or("registry")?;
+    Ok(())
+}
+
 fn registry(alloc: Global, federates: &str) -> Result<Registry, Fail> {
     let mut registry = Registry::new(alloc);
     for line in federates.lines() {
-        let record = federate(alloc, line)?;
-        registry.add(record).ok().ok_or("registry")?;
+        enter(alloc, &mut registry, line)?;
     }
     Ok(registry)
 }
@@ -204,15 +284,32 @@ fn row(alloc: Global, parent: u16, kind: NodeKind) -> Result<NodeRow, Fail> {
     })
 }
 
-// A root and a core, at which so many federates stand.
-fn small_tree(alloc: Global, count: usize) -> Result<Tree, Fail> {
-    let mut nodes = Items::new(alloc);
-    nodes.push(row(alloc, 0, NodeKind::Root)?)?;
-    nodes.push(row(alloc, 0, NodeKind::Core)?)?;
+fn grow(
+    alloc: Global,
+    nodes: &mut Items<NodeRow>,
+    parent: u16,
+    kind: NodeKind,
+) -> Result<(), Fail> {
+    let row = row(alloc, parent, kind)?;
+    nodes.push(row)?;
+    Ok(())
+}
+
+// So many federates at node 1.
+fn at_one(alloc: Global, count: usize) -> Result<Items<u16>, Fail> {
     let mut cores = Items::new(alloc);
     for _ in 0..count {
         cores.push(1)?;
     }
+    Ok(cores)
+}
+
+// A root and a core, at which so many federates stand.
+fn small_tree(alloc: Global, count: usize) -> Result<Tree, Fail> {
+    let mut nodes = Items::new(alloc);
+    grow(alloc, &mut nodes, 0, NodeKind::Root)?;
+    grow(alloc, &mut nodes, 0, NodeKind::Core)?;
+    let cores = at_one(alloc, count)?;
     Ok(Tree { nodes, cores })
 }
 
@@ -222,16 +319,46 @@ fn built(
     registry: &Registry,
     tree: Tree,
 ) -> Result<Result<Plan, PlanRefusal>, Fail> {
-    if !tree.valid() || tree.cores.len() != registry.len() {
-        return Err(Fail::from("tree"));
+    if tree.valid() && tree.cores.len() == registry.len() {
+        Ok(Plan::build(alloc, registry, tree))
+    } else {
+        Err(Fail::from("tree"))
     }
-    Ok(Plan::build(alloc, registry, tree))
+}
+
+// What it answers of federates that stand at one core.
+fn answer(alloc: Global, federates: &str) -> Result<Result<Plan, PlanRefusal>, Fail> {
+    let registry = registry(alloc, federates)?;
+    let tree = small_tree(alloc, registry.len())?;
+    built(alloc, &registry, tree)
+}
+
+fn made(answer: Result<Plan, PlanRefusal>) -> Result<Plan, Fail> {
+    match answer {
+        Ok(plan) => Ok(plan),
+        Err(_) => Err(Fail::from("plan")),
+    }
 }
 
 // The plan of federates that stand at one core.
 fn plan(alloc: Global, federates: &str) -> Result<Plan, Fail> {
-    let registry = registry(alloc, federates)?;
-    let tree = small_tree(alloc, registry.len())?;
-    let plan = built(alloc, &registry, tree)?.ok().ok_or("plan")?;
-    Ok(plan)
+    made(answer(alloc, federates)?)
+}
+
+fn copy(alloc: Global, plan: &Plan) -> Result<Plan, Fail> {
+    Ok(plan.copy(alloc)?)
+}
+
+fn count(plan: &Plan) -> u16 {
+    plan.count()
+}
+
+fn endpoint_of(plan: &Plan, name: &str) -> Option<EndRef>
+    ensures { IfSome result (IsEndpoint plan.now.federates) }
+{
+    plan.endpoint(name)
+}
+
+fn is_text(rt: &impl Abort, text: &str, want: &str, federates: &str) {
+    assert_eq!(rt; text, want, "{federates}");
 }

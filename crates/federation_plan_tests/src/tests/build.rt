@@ -48,20 +48,27 @@ const CASES: [(&str, &str); 15] = [
     ),
 ];
 
-fn refusal(alloc: Global, federates: &str) -> Result<String, Fail> {
-    let registry = registry(alloc, federates)?;
-    let tree = small_tree(alloc, registry.len())?;
-    match built(alloc, &registry, tree)? {
+fn told(alloc: Global, answer: Result<Plan, PlanRefusal>) -> Result<String, Fail> {
+    match answer {
         Ok(_) => Ok(String::new(alloc)),
         Err(refusal) => Ok(format!(in alloc; "{refusal:?}")?),
     }
 }
 
+fn refusal(alloc: Global, federates: &str) -> Result<String, Fail> {
+    told(alloc, answer(alloc, federates)?)
+}
+
+fn is_refused(rt: &impl Abort, alloc: Global, federates: &str, want: &str) -> Result<(), Fail> {
+    let refusal = refusal(alloc, federates)?;
+    is_text(rt, refusal.as_str(), want, federates);
+    Ok(())
+}
+
 #[test]
 fn plans_are_made_or_refused(rt: HostRuntime) -> Result<(), Fail> {
     for (federates, want) in CASES {
-        let refusal = refusal(rt.alloc(), federates)?;
-        assert_eq!(rt; refusal.as_str(), want, "{federates}");
+        is_refused(&rt, rt.alloc(), federates, want)?;
     }
     Ok(())
 }

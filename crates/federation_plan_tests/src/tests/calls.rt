@@ -1,3 +1,6 @@
+ghost use Rattle.std.specs.Prelude.{IsTrue};
+ghost use Rattle.federation_plan.specs.Interfaces.{IsEndpoint, IsPublication};
+
 use super::*;
 use hel_values::Value;
 use machine_laws::CallRefusal;
@@ -25,13 +28,23 @@ const SENDS: [(u16, &str, Option<EndRef>, Option<CallRefusal>); 9] = [
 ];
 
 fn destined(plan: &Plan, from: EndRef, name: &str) -> Option<EndRef> {
-    if from.fed < plan.count() {
-        let federate = plan.federate(from.fed);
-        if usize::from(from.index) < federate.endpoints.len() {
-            return plan.destined(from, name);
-        }
+    if is_endpoint(plan, from) {
+        plan.destined(from, name)
+    } else {
+        None
     }
-    None
+}
+
+fn is_endpoint(plan: &Plan, at: EndRef) -> bool
+    ensures { IsTrue result → IsEndpoint plan.now.federates at }
+{
+    at.fed < plan.count() && usize::from(at.index) < plan.federate(at.fed).endpoints.len()
+}
+
+fn is_publication(plan: &Plan, at: EndRef) -> bool
+    ensures { IsTrue result → IsPublication plan.now.federates at }
+{
+    at.fed < plan.count() && usize::from(at.index) < plan.federate(at.fed).publications.len()
 }
 
 fn refused(plan: &Plan, from: EndRef, name: &str) -> Option<CallRefusal> {
@@ -42,74 +55,131 @@ fn refused(plan: &Plan, from: EndRef, name: &str) -> Option<CallRefusal> {
     }
 }
 
+fn means(rt: &impl Abort, plan: &Plan, index: u16, name: &str, end: Option<EndRef>) {
+    assert_eq!(rt;
+        destined(plan, EndRef { fed: 0, index }, name),
+        end,
+        "{index} {name}"
+    );
+}
+
+fn is_refused(
+    rt: &impl Abort,
+    plan: &Plan,
+    index: u16,
+    name: &str,
+    objection: Option<CallRefusal>,
+) {
+    assert_eq!(rt;
+        refused(plan, EndRef { fed: 0, index }, name),
+        objection,
+        "{index} {name}"
+    );
+}
+
+fn are_refused(rt: &impl Abort, plan: &Plan) {
+    for (index, name, end, objection) in SENDS {
+        means(rt, plan, index, name, end);
+        is_refused(rt, plan, index, name, objection);
+    }
+}
+
 #[test]
 fn sends_are_refused_for_a_reason(rt: HostRuntime) -> Result<(), Fail> {
     let plan = plan(rt.alloc(), FEDERATES)?;
-    for (index, name, end, objection) in SENDS {
-        let from = EndRef { fed: 0, index };
-        assert_eq!(rt; destined(&plan, from, name), end, "{index} {name}");
-        assert_eq!(rt; refused(&plan, from, name), objection, "{index} {name}");
-    }
+    are_refused(&rt, &plan);
     Ok(())
+}
+
+// A publication, and why it doesn't take a number.
+const NUMBERS: [(u16, u16, Option<CallRefusal>); 4] = [
+    (0, 0, None),
+    (0, 1, Some(CallRefusal::KindMismatch)),
+    (0, 2, Some(CallRefusal::NotOwner)),
+    (1, 0, Some(CallRefusal::NotOwner)),
+];
+
+fn refused_number(plan: &Plan, fed: u16, index: u16) -> Option<CallRefusal> {
+    if fed < plan.count() {
+        plan.publish_objection(EndRef { fed, index }, &Value::Int(7))
+    } else {
+        Some(CallRefusal::UnknownEndpoint)
+    }
+}
+
+fn takes(rt: &impl Abort, plan: &Plan, fed: u16, index: u16, want: Option<CallRefusal>) {
+    assert_eq!(rt; refused_number(plan, fed, index), want, "{fed} {index}");
+}
+
+fn take_their_kind(rt: &impl Abort, plan: &Plan) {
+    for (fed, index, objection) in NUMBERS {
+        takes(rt, plan, fed, index, objection);
+    }
 }
 
 #[test]
 fn publications_take_their_kind(rt: HostRuntime) -> Result<(), Fail> {
     let plan = plan(rt.alloc(), FEDERATES)?;
-    let table = [
-        (0, 0, None),
-        (0, 1, Some(CallRefusal::KindMismatch)),
-        (0, 2, Some(CallRefusal::NotOwner)),
-        (1, 0, Some(CallRefusal::NotOwner)),
-    ];
-    for (fed, index, objection) in table {
-        if fed < plan.count() {
-            let publication = EndRef { fed, index };
-            let answer = plan.publish_objection(publication, &Value::Int(7));
-            assert_eq!(rt; answer, objection, "{fed} {index}");
-        }
-    }
+    take_their_kind(&rt, &plan);
     Ok(())
 }
 
 fn targets(plan: &Plan, publication: EndRef) -> &[EndRef] {
-    if publication.fed < plan.count() {
-        let federate = plan.federate(publication.fed);
-        if usize::from(publication.index) < federate.publications.len() {
-            return plan.targets(publication);
-        }
+    if is_publication(plan, publication) {
+        plan.targets(publication)
+    } else {
+        &[]
     }
-    &[]
+}
+
+fn has_no_target(rt: &impl Abort, plan: &Plan) {
+    assert!(rt; targets(plan, EndRef { fed: 0, index: 0 }).is_empty());
+}
+
+fn has_one_target(rt: &impl Abort, plan: &Plan) {
+    let inputs = targets(plan, EndRef { fed: 0, index: 1 });
+    assert!(rt; inputs == [EndRef { fed: 1, index: 0 }].as_slice());
 }
 
 #[test]
 fn publications_have_targets(rt: HostRuntime) -> Result<(), Fail> {
     let plan = plan(rt.alloc(), FEDERATES)?;
-    assert!(rt; targets(&plan, EndRef { fed: 0, index: 0 }).is_empty());
-    let inputs = targets(&plan, EndRef { fed: 0, index: 1 });
-    assert!(rt; inputs == [EndRef { fed: 1, index: 0 }].as_slice());
+    has_no_target(&rt, &plan);
+    has_one_target(&rt, &plan);
     Ok(())
 }
 
 // What the federation calls an endpoint that it calls so.
 fn endpoint_name(alloc: Global, plan: &Plan, name: &str) -> Result<Text, Fail> {
-    let end = plan.endpoint(name).ok_or("endpoint")?;
-    Ok(plan.endpoint_name(alloc, end)?)
+    match endpoint_of(plan, name) {
+        Some(end) => Ok(plan.endpoint_name(alloc, end)?),
+        None => Err(Fail::from("endpoint")),
+    }
 }
 
-fn publication_name(alloc: Global, plan: &Plan, index: u16) -> Result<Text, Fail> {
-    if plan.count() == 0 || plan.federate(0).publications.len() <= usize::from(index) {
-        return Err(Fail::from("publication"));
+fn publication_name(alloc: Global, plan: &Plan, at: EndRef) -> Result<Text, Fail> {
+    if is_publication(plan, at) {
+        Ok(plan.publication_name(alloc, at)?)
+    } else {
+        Err(Fail::from("publication"))
     }
-    Ok(plan.publication_name(alloc, EndRef { fed: 0, index })?)
+}
+
+fn has_endpoint_name(rt: &impl Abort, alloc: Global, plan: &Plan) -> Result<(), Fail> {
+    let name = endpoint_name(alloc, plan, "A/f")?;
+    assert!(rt; name.as_str() == "A/f");
+    Ok(())
+}
+
+fn has_publication_name(rt: &impl Abort, alloc: Global, plan: &Plan) -> Result<(), Fail> {
+    let name = publication_name(alloc, plan, EndRef { fed: 0, index: 1 })?;
+    assert!(rt; name.as_str() == "A/q");
+    Ok(())
 }
 
 #[test]
 fn interfaces_have_names(rt: HostRuntime) -> Result<(), Fail> {
     let plan = plan(rt.alloc(), FEDERATES)?;
-    let end = endpoint_name(rt.alloc(), &plan, "A/f")?;
-    let publication = publication_name(rt.alloc(), &plan, 1)?;
-    assert!(rt; end.as_str() == "A/f");
-    assert!(rt; publication.as_str() == "A/q");
-    Ok(())
+    has_endpoint_name(&rt, rt.alloc(), &plan)?;
+    has_publication_name(&rt, rt.alloc(), &plan)
 }

@@ -1,5 +1,4 @@
 use super::*;
-use hel_lists::Copied;
 use message_filters::Filtered;
 
 const B_E: EndRef = EndRef { fed: 1, index: 0 };
@@ -70,18 +69,37 @@ const CASES: [(&str, Filtered); 9] = [
 ];
 
 fn message(plan: &Plan) -> Option<Filtered> {
-    let from = plan.endpoint("A/e")?;
-    let dest = plan.endpoint("B/e")?;
+    let from = endpoint_of(plan, "A/e")?;
+    let dest = endpoint_of(plan, "B/e")?;
     Some(plan.filtered(from, 0, dest))
+}
+
+fn becomes(rt: &impl Abort, plan: &Plan, want: Filtered, federates: &str) {
+    assert_eq!(rt; message(plan), Some(want), "{federates}");
+}
+
+fn becomes_in_copy(
+    rt: &impl Abort,
+    alloc: Global,
+    plan: &Plan,
+    want: Filtered,
+    federates: &str,
+) -> Result<(), Fail> {
+    let copy = copy(alloc, plan)?;
+    becomes(rt, &copy, want, federates);
+    Ok(())
+}
+
+fn passes(rt: &impl Abort, alloc: Global, federates: &str, want: Filtered) -> Result<(), Fail> {
+    let plan = plan(alloc, federates)?;
+    becomes(rt, &plan, want, federates);
+    becomes_in_copy(rt, alloc, &plan, want, federates)
 }
 
 #[test]
 fn messages_pass_the_filters(rt: HostRuntime) -> Result<(), Fail> {
     for (federates, want) in CASES {
-        let plan = plan(rt.alloc(), federates)?;
-        let copy = plan.copy(rt.alloc())?;
-        assert_eq!(rt; message(&plan), Some(want), "{federates}");
-        assert_eq!(rt; message(&copy), Some(want), "{federates}");
+        passes(&rt, rt.alloc(), federates, want)?;
     }
     Ok(())
 }

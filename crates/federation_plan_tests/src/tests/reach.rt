@@ -1,5 +1,4 @@
 use super::*;
-use hel_lists::Copied;
 use std::fmt::Write;
 
 // Federates, and the ancestors of each.
@@ -39,22 +38,61 @@ const ANCESTORS: [(&str, &str); 9] = [
     ("A <B/p @e>\nB @e>A/x @f<A/x\nC\nD", "[] [] [] [] "),
 ];
 
+fn ancestors_of(plan: &Plan, f: u16) -> &[u16] {
+    if f < plan.count() {
+        plan.ancestors(f)
+    } else {
+        &[]
+    }
+}
+
+fn tell(text: &mut String, ancestors: &[u16]) -> Result<(), Fail> {
+    write!(text, "{ancestors:?} ")?;
+    Ok(())
+}
+
 // The ancestors of each federate.
 fn rows(alloc: Global, plan: &Plan) -> Result<String, Fail> {
     let mut text = String::new(alloc);
-    for f in 0..plan.count() {
-        write!(text, "{:?} ", plan.ancestors(f))?;
+    for f in 0..count(plan) {
+        tell(&mut text, ancestors_of(plan, f))?;
     }
     Ok(text)
+}
+
+fn have_rows(
+    rt: &impl Abort,
+    alloc: Global,
+    plan: &Plan,
+    federates: &str,
+    want: &str,
+) -> Result<(), Fail> {
+    let rows = rows(alloc, plan)?;
+    is_text(rt, rows.as_str(), want, federates);
+    Ok(())
+}
+
+fn copies_have_rows(
+    rt: &impl Abort,
+    alloc: Global,
+    plan: &Plan,
+    federates: &str,
+    want: &str,
+) -> Result<(), Fail> {
+    let copy = copy(alloc, plan)?;
+    have_rows(rt, alloc, &copy, federates, want)
+}
+
+fn have_ancestors(rt: &impl Abort, alloc: Global, federates: &str, want: &str) -> Result<(), Fail> {
+    let plan = plan(alloc, federates)?;
+    have_rows(rt, alloc, &plan, federates, want)?;
+    copies_have_rows(rt, alloc, &plan, federates, want)
 }
 
 #[test]
 fn ancestors_are_those_who_reach(rt: HostRuntime) -> Result<(), Fail> {
     for (federates, want) in ANCESTORS {
-        let plan = plan(rt.alloc(), federates)?;
-        let copy = plan.copy(rt.alloc())?;
-        assert_eq!(rt; rows(rt.alloc(), &plan)?.as_str(), want, "{federates}");
-        assert_eq!(rt; rows(rt.alloc(), &copy)?.as_str(), want, "{federates}");
+        have_ancestors(&rt, rt.alloc(), federates, want)?;
     }
     Ok(())
 }
@@ -77,41 +115,65 @@ const WAITS: [(&str, Option<(u16, u16)>); 8] = [
     ("~A @e>\n~B @e>C/e\n~C @e>B/e\n~D @e>", Some((1, 2))),
 ];
 
+fn is_first_pair(rt: &impl Abort, plan: &Plan, pair: Option<(u16, u16)>, federates: &str) {
+    assert_eq!(rt; plan.wait_cycle(), pair, "{federates}");
+}
+
+fn have_pair(
+    rt: &impl Abort,
+    alloc: Global,
+    federates: &str,
+    pair: Option<(u16, u16)>,
+) -> Result<(), Fail> {
+    let plan = plan(alloc, federates)?;
+    is_first_pair(rt, &plan, pair, federates);
+    Ok(())
+}
+
 #[test]
 fn the_first_pair_that_waits(rt: HostRuntime) -> Result<(), Fail> {
     for (federates, pair) in WAITS {
-        let plan = plan(rt.alloc(), federates)?;
-        assert_eq!(rt; plan.wait_cycle(), pair, "{federates}");
+        have_pair(&rt, rt.alloc(), federates, pair)?;
     }
     Ok(())
 }
 
 // Whether one endpoint may send to another, where both are there.
 fn may_send(plan: &Plan, from: &str, to: &str) -> Option<bool> {
-    let from = plan.endpoint(from)?;
-    let to = plan.endpoint(to)?;
+    let from = endpoint_of(plan, from)?;
+    let to = endpoint_of(plan, to)?;
     Some(plan.may_send(from, to))
+}
+
+// Two endpoints, and whether the one may send to the other.
+const SENDERS: [(&str, &str, Option<bool>); 10] = [
+    ("A/e", "A/e", Some(true)),
+    ("A/e", "B/s", Some(true)),
+    ("A/t", "B/e", Some(true)),
+    ("A/t", "B/s", Some(true)),
+    ("A/t", "B/x", Some(false)),
+    ("A/t", "A/t", Some(false)),
+    ("B/s", "A/t", Some(false)),
+    ("B/x", "A/t", Some(true)),
+    ("B/x", "B/y", None),
+    ("e", "B/e", None),
+];
+
+fn sends(rt: &impl Abort, plan: &Plan, from: &str, to: &str, may: Option<bool>) {
+    assert_eq!(rt; may_send(plan, from, to), may, "{from} {to}");
+}
+
+fn send_to_few(rt: &impl Abort, plan: &Plan) {
+    for (from, to, may) in SENDERS {
+        sends(rt, plan, from, to, may);
+    }
 }
 
 #[test]
 fn targeted_endpoints_send_to_few(rt: HostRuntime) -> Result<(), Fail> {
     let plan = plan(rt.alloc(), "A @e @t>B/e\nB @e @s<A/t @x")?;
-    let copy = plan.copy(rt.alloc())?;
-    let table = [
-        ("A/e", "A/e", Some(true)),
-        ("A/e", "B/s", Some(true)),
-        ("A/t", "B/e", Some(true)),
-        ("A/t", "B/s", Some(true)),
-        ("A/t", "B/x", Some(false)),
-        ("A/t", "A/t", Some(false)),
-        ("B/s", "A/t", Some(false)),
-        ("B/x", "A/t", Some(true)),
-        ("B/x", "B/y", None),
-        ("e", "B/e", None),
-    ];
-    for (from, to, may) in table {
-        assert_eq!(rt; may_send(&plan, from, to), may, "{from} {to}");
-        assert_eq!(rt; may_send(&copy, from, to), may, "{from} {to}");
-    }
+    let copy = copy(rt.alloc(), &plan)?;
+    send_to_few(&rt, &plan);
+    send_to_few(&rt, &copy);
     Ok(())
 }
