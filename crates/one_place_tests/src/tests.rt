@@ -1,22 +1,19 @@
-ghost use Rattle.std.specs.Prelude.{◌≤◌, IfOk};
-ghost use Rattle.helics_time.specs.Time.{max_time};
-ghost use Rattle.machine_laws.specs.Machine.{KeepsTime};
-ghost use Rattle.one_place.specs.Step.{step_of};
-
 mod alone;
 mod held;
 mod messages;
 mod orders;
 mod plans;
+mod runs;
 mod settings;
+mod steps;
 mod values;
 
 use self::plans::{THREE, plan_of};
+use self::steps::{answers, asked, ends_so, go, logs, open, phase};
 use hel_lists::Text;
 use hel_values::{Payload, TextValue, Value};
 use helics_time::{MAX, Stamp};
-use iteration_rules::Mode;
-use one_place::{CallRefusal, Machine, MachineStep, Unlawful};
+use one_place::{CallRefusal, FedLog, Machine, MachineStep, Unlawful};
 use std::alloc::Global;
 use std::process::Abort;
 use std::test::Fail;
@@ -26,6 +23,8 @@ use time_state::{Cause, Phase};
 const BEGIN: u8 = 0;
 
 const ENTER: u8 = 1;
+
+const PUBLISH: u8 = 2;
 
 const ASK: u8 = 4;
 
@@ -41,20 +40,9 @@ const HALT: u8 = 9;
 
 const ASK_LAST: u8 = 13;
 
-fn asked(f: u16, time: u64) -> MachineStep
-    requires { time ≤ max_time }
-    ensures { KeepsTime (step_of result) }
-{
-    MachineStep::Request {
-        fed: f,
-        time,
-        mode: Mode::Next,
-    }
-}
+const ASK_LATER: u8 = 16;
 
-fn failed(alloc: Global, f: u16) -> Result<MachineStep, Fail>
-    ensures { IfOk result (λ step. KeepsTime (step_of step)) }
-{
+fn failed(alloc: Global, f: u16) -> Result<MachineStep, Fail> {
     let text = TextValue::of(String::from_str(alloc, "x")?);
     Ok(MachineStep::Fail {
         fed: f,
@@ -62,9 +50,7 @@ fn failed(alloc: Global, f: u16) -> Result<MachineStep, Fail>
     })
 }
 
-fn sent(alloc: Global, f: u16) -> Result<MachineStep, Fail>
-    ensures { IfOk result (λ step. KeepsTime (step_of step)) }
-{
+fn sent(alloc: Global, f: u16) -> Result<MachineStep, Fail> {
     let payload = Payload::of(Vec::new(alloc)).ok().ok_or("payload")?;
     Ok(MachineStep::Send {
         fed: f,
@@ -74,9 +60,7 @@ fn sent(alloc: Global, f: u16) -> Result<MachineStep, Fail>
     })
 }
 
-fn published(f: u16, publication: u16, number: i64) -> MachineStep
-    ensures { KeepsTime (step_of result) }
-{
+fn published(f: u16, publication: u16, number: i64) -> MachineStep {
     MachineStep::Publish {
         fed: f,
         publication,
@@ -85,9 +69,7 @@ fn published(f: u16, publication: u16, number: i64) -> MachineStep
 }
 
 // A publish of a value of another kind than the publication's.
-fn misfit(alloc: Global, f: u16) -> Result<MachineStep, Fail>
-    ensures { IfOk result (λ step. KeepsTime (step_of step)) }
-{
+fn misfit(alloc: Global, f: u16) -> Result<MachineStep, Fail> {
     let text = TextValue::of(String::from_str(alloc, "x")?);
     Ok(MachineStep::Publish {
         fed: f,
@@ -96,13 +78,11 @@ fn misfit(alloc: Global, f: u16) -> Result<MachineStep, Fail>
     })
 }
 
-fn step_at(alloc: Global, f: u16, place: u8) -> Result<MachineStep, Fail>
-    ensures { IfOk result (λ step. KeepsTime (step_of step)) }
-{
+fn step_at(alloc: Global, f: u16, place: u8) -> Result<MachineStep, Fail> {
     match place {
         BEGIN => Ok(MachineStep::Begin),
         ENTER => Ok(MachineStep::Enter(f)),
-        2 => Ok(published(f, 0, 1)),
+        PUBLISH => Ok(published(f, 0, 1)),
         3 => sent(alloc, f),
         ASK => Ok(asked(f, 10)),
         GRANT => Ok(MachineStep::Grant(f)),
@@ -115,15 +95,16 @@ fn step_at(alloc: Global, f: u16, place: u8) -> Result<MachineStep, Fail>
         12 => Ok(MachineStep::Halt { core: 1, fed: 3 }),
         14 => Ok(published(f, 1, 1)),
         15 => misfit(alloc, f),
+        ASK_LATER => Ok(asked(f, 11)),
         _ => Ok(asked(f, MAX)),
     }
 }
 
 // The machine of three federates after these steps.
 fn machine_after(alloc: Global, steps: &[(u16, u8)]) -> Result<Machine, Fail> {
-    let mut machine = Machine::open(alloc, plan_of(alloc, &THREE)?)?;
+    let mut machine = open(alloc, plan_of(alloc, &THREE)?)?;
     for (f, place) in steps {
-        machine.step(step_at(alloc, *f, *place)?)?;
+        go(&mut machine, step_at(alloc, *f, *place)?)?;
     }
     Ok(machine)
 }
@@ -142,25 +123,6 @@ fn meant(letter: u8, phase: Phase) -> Option<Unlawful> {
         (b'f', _) => Some(Unlawful::NothingFailed),
         _ => None,
     }
-}
-
-// A step is answered so, and where it is refused the machine stays as it was.
-fn answers(
-    rt: &impl Abort,
-    alloc: Global,
-    mut machine: Machine,
-    place: u8,
-    refusal: Option<Unlawful>,
-) -> Result<(), Fail> {
-    let before = format!(in alloc; "{machine:?}")?;
-    let answer = machine.step(step_at(alloc, 0, place)?);
-    assert_eq!(rt; answer.err(), refusal, "{before} {place}");
-    let after = format!(in alloc; "{machine:?}")?;
-    assert!(rt;
-        refusal.is_none() || after.as_str() == before.as_str(),
-        "{before} {place}"
-    );
-    Ok(())
 }
 
 // The steps of federate 0 before, its phase, and how each step is answered then.
@@ -215,19 +177,43 @@ const ROWS: [(&[(u16, u8)], Phase, &[u8; 16]); 10] = [
     ),
 ];
 
-#[test]
-fn each_refusal_comes_in_each_phase(rt: HostRuntime) -> Result<(), Fail> {
-    for (steps, phase, letters) in ROWS {
-        for (place, letter) in letters.iter().enumerate() {
-            let machine = machine_after(rt.alloc(), steps)?;
-            assert_eq!(rt; machine.phase(0), phase);
-            answers(&rt, rt.alloc(), machine, place as u8, meant(*letter, phase))?;
-        }
+// Each step is answered so behind these steps.
+fn row_holds(
+    rt: &impl Abort,
+    alloc: Global,
+    steps: &[(u16, u8)],
+    stands: Phase,
+    letters: &[u8; 16],
+) -> Result<(), Fail> {
+    for (place, letter) in letters.iter().enumerate() {
+        let mut machine = machine_after(alloc, steps)?;
+        assert_eq!(rt; phase(&machine, 0), stands);
+        let step = step_at(alloc, 0, place as u8)?;
+        answers(rt, alloc, &mut machine, step, meant(*letter, stands))?;
     }
     Ok(())
 }
 
-// A grant to the second of three federates, which depends on the first: these asked for 10 and 100.
+#[test]
+fn each_refusal_comes_in_each_phase(rt: HostRuntime) -> Result<(), Fail> {
+    for (steps, stands, letters) in ROWS {
+        row_holds(&rt, rt.alloc(), steps, stands, letters)?;
+    }
+    Ok(())
+}
+
+// What a letter means of a grant to the second of three federates, which depends on the first: it is given (-),
+// early or not asked for.
+fn answered(letter: u8) -> Option<Unlawful> {
+    let stamp = Stamp { time: 10, micro: 0 };
+    match letter {
+        b'e' => Some(Unlawful::Early { holder: 0, stamp }),
+        b'n' => Some(Unlawful::NotAsked),
+        _ => None,
+    }
+}
+
+// The two asked for 10 and 100.
 #[test]
 fn a_grant_is_early_while_an_ancestor_holds_it(rt: HostRuntime) -> Result<(), Fail> {
     let steps = [
@@ -240,20 +226,32 @@ fn a_grant_is_early_while_an_ancestor_holds_it(rt: HostRuntime) -> Result<(), Fa
         (1, ASK_LAST),
     ];
     let mut machine = machine_after(rt.alloc(), &steps)?;
-    let stamp = Stamp { time: 10, micro: 0 };
-    let early = Err(Unlawful::Early { holder: 0, stamp });
     // The first could still send at 10, and does, and then what is sent comes at (10, 1).
-    assert_eq!(rt; machine.step(MachineStep::Grant(1)), early);
-    machine.step(MachineStep::Grant(0))?;
-    machine.step(published(0, 0, 5))?;
-    assert_eq!(rt; machine.step(MachineStep::Grant(1)), early);
-    machine.step(asked(0, 11))?;
-    assert_eq!(rt; machine.step(MachineStep::Grant(1)), Ok(()));
-    assert_eq!(rt;
-        machine.step(MachineStep::Grant(1)),
-        Err(Unlawful::NotAsked)
-    );
+    for (f, place, letter) in [
+        (1, GRANT, b'e'),
+        (0, GRANT, b'-'),
+        (0, PUBLISH, b'-'),
+        (1, GRANT, b'e'),
+        (0, ASK_LATER, b'-'),
+        (1, GRANT, b'-'),
+        (1, GRANT, b'n'),
+    ] {
+        let step = step_at(rt.alloc(), f, place)?;
+        answers(&rt, rt.alloc(), &mut machine, step, answered(letter))?;
+    }
     Ok(())
+}
+
+// A log has so many grants, and ends so by its derived text.
+fn stands(
+    rt: &impl Abort,
+    alloc: Global,
+    log: &FedLog,
+    grants: usize,
+    end: &str,
+) -> Result<(), Fail> {
+    assert_eq!(rt; log.entries.len(), grants);
+    ends_so(rt, alloc, log, end)
 }
 
 #[test]
@@ -277,11 +275,10 @@ fn logs_end_as_their_federates_stand(rt: HostRuntime) -> Result<(), Fail> {
         (0, "Ended(Died)"),
         (2, "Ended(Finished)"),
     ];
-    assert_eq!(rt; machine.logs().feds.len(), told.len());
-    for (log, (grants, end)) in machine.logs().feds.as_slice().iter().zip(told) {
-        assert_eq!(rt; log.entries.len(), grants);
-        let stands = format!(in rt.alloc(); "{:?}", log.end)?;
-        assert_eq!(rt; stands.as_str(), end);
+    let logs = logs(&machine);
+    assert_eq!(rt; logs.feds.len(), told.len());
+    for (log, (grants, end)) in logs.feds.as_slice().iter().zip(told) {
+        stands(&rt, rt.alloc(), log, grants, end)?;
     }
     Ok(())
 }

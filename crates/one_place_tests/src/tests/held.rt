@@ -1,12 +1,9 @@
 // Steps that are refused: of strange numbers, and grants that an ancestor holds.
-ghost use Rattle.machine_laws.specs.Machine.{KeepsTime};
-ghost use Rattle.one_place.specs.Step.{step_of};
-
 use super::plans::{Row, THREE, plan_of};
+use super::steps::{answers, asked, go, logs, open, phase};
 use super::{BEGIN, machine_after, step_at};
 use hel_values::ValueKind;
 use helics_time::Stamp;
-use iteration_rules::Mode;
 use one_place::{Machine, MachineStep, Unlawful};
 use std::alloc::Global;
 use std::process::Abort;
@@ -19,11 +16,9 @@ fn each_step_of_a_strange_number_is_refused(rt: HostRuntime) -> Result<(), Fail>
     for f in [THREE.len() as u16, u16::MAX] {
         for place in 1..16 {
             let mut machine = machine_after(rt.alloc(), &[(0, BEGIN)])?;
-            let before = format!(in rt.alloc(); "{machine:?}")?;
-            let answer = machine.step(step_at(rt.alloc(), f, place)?);
-            assert_eq!(rt; answer, Err(Unlawful::StrangeNumber), "{f} {place}");
-            let after = format!(in rt.alloc(); "{machine:?}")?;
-            assert_eq!(rt; after.as_str(), before.as_str(), "{f} {place}");
+            let step = step_at(rt.alloc(), f, place)?;
+            let strange = Some(Unlawful::StrangeNumber);
+            answers(&rt, rt.alloc(), &mut machine, step, strange)?;
         }
     }
     Ok(())
@@ -48,16 +43,10 @@ enum Do {
 
 use Do::{Ask, Enter, Granted};
 
-fn step_of(step: Do) -> MachineStep
-    ensures { KeepsTime (step_of result) }
-{
+fn step_of(step: Do) -> MachineStep {
     match step {
         Enter(fed) => MachineStep::Enter(fed),
-        Ask(fed, time) => MachineStep::Request {
-            fed,
-            time: u64::from(time),
-            mode: Mode::Next,
-        },
+        Ask(fed, time) => asked(fed, u64::from(time)),
         Granted(fed) => MachineStep::Grant(fed),
     }
 }
@@ -159,6 +148,11 @@ const HELD: [Held; 7] = [
     ),
 ];
 
+// All logs by their derived text.
+fn told(alloc: Global, machine: &Machine) -> Result<String, Fail> {
+    Ok(format!(in alloc; "{:?}", logs(machine))?)
+}
+
 // The grant is early, and each time that it is tried the machine has the same phases and logs as before.
 fn is_held(
     rt: &impl Abort,
@@ -167,16 +161,13 @@ fn is_held(
     f: u16,
     early: Unlawful,
 ) -> Result<(), Fail> {
-    let before = format!(in alloc; "{machine:?}")?;
-    let phase = machine.phase(f);
-    assert!(rt; matches!(phase, Phase::Entering | Phase::Waiting));
-    let logs = format!(in alloc; "{:?}", machine.logs())?;
+    let stands = phase(machine, f);
+    assert!(rt; matches!(stands, Phase::Entering | Phase::Waiting));
+    let before = told(alloc, machine)?;
     for _ in 0..2 {
-        assert_eq!(rt; machine.step(MachineStep::Grant(f)), Err(early));
-        assert_eq!(rt; machine.phase(f), phase);
-        let logs_after = format!(in alloc; "{:?}", machine.logs())?;
-        assert_eq!(rt; logs_after.as_str(), logs.as_str());
-        let after = format!(in alloc; "{machine:?}")?;
+        answers(rt, alloc, machine, MachineStep::Grant(f), Some(early))?;
+        assert_eq!(rt; phase(machine, f), stands);
+        let after = told(alloc, machine)?;
         assert_eq!(rt; after.as_str(), before.as_str());
     }
     Ok(())
@@ -184,10 +175,10 @@ fn is_held(
 
 // The machine of a plan after these steps.
 fn machine_of(alloc: Global, rows: &[Row], steps: &[Do]) -> Result<Machine, Fail> {
-    let mut machine = Machine::open(alloc, plan_of(alloc, rows)?)?;
-    machine.step(MachineStep::Begin)?;
+    let mut machine = open(alloc, plan_of(alloc, rows)?)?;
+    go(&mut machine, MachineStep::Begin)?;
     for step in steps {
-        machine.step(step_of(*step))?;
+        go(&mut machine, step_of(*step))?;
     }
     Ok(machine)
 }
@@ -197,13 +188,8 @@ fn the_least_ancestor_holds_a_grant(rt: HostRuntime) -> Result<(), Fail> {
     for (rows, steps, f, holder, (time, micro)) in HELD {
         let mut machine = machine_of(rt.alloc(), rows, steps)?;
         let stamp = Stamp { time, micro };
-        is_held(
-            &rt,
-            rt.alloc(),
-            &mut machine,
-            f,
-            Unlawful::Early { holder, stamp },
-        )?;
+        let early = Unlawful::Early { holder, stamp };
+        is_held(&rt, rt.alloc(), &mut machine, f, early)?;
     }
     Ok(())
 }

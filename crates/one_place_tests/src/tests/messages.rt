@@ -1,19 +1,16 @@
 // Messages on their way, by steps of the machine and by scripts.
-ghost use Rattle.std.specs.Prelude.{◌≡◌, ◌≤◌, [], IfOk};
-ghost use Rattle.fed_script.specs.Script.{IsCourse, NamesTime};
+ghost use Rattle.std.specs.Prelude.{[]};
 ghost use Rattle.interface_names.specs.Filter.{KeepsBounds};
-ghost use Rattle.machine_laws.specs.Machine.{KeepsTime};
-ghost use Rattle.one_place.specs.Step.{step_of};
 
-use super::asked;
 use super::plans::{endpoint, enter, nameless, plan_of_all, texts};
+use super::runs::{Say, Speech, run, scenario_over};
+use super::steps::{self, asked, go, logs, open};
 use due_queue::{Content, Item, Message};
-use fed_script::{Script, Word, Words};
 use hel_lists::{Items, Text};
 use hel_values::{EndRef, Payload};
 use helics_time::MAX;
 use interface_names::{FederateRecord, FilterKind, FilterRecord, Registry};
-use one_place::{CallRefusal, LogEntry, Machine, MachineStep, Plan, Scenario, Unlawful, reference};
+use one_place::{CallRefusal, LogEntry, Machine, MachineStep, Plan, Unlawful};
 use std::alloc::Global;
 use std::process::Abort;
 use std::test::Fail;
@@ -24,9 +21,7 @@ pub fn payload(alloc: Global, text: &str) -> Result<Payload, Fail> {
     Ok(Payload::of(bytes).ok().ok_or("payload")?)
 }
 
-fn sent(alloc: Global, fed: u16, endpoint: u16, dest: &str) -> Result<MachineStep, Fail>
-    ensures { IfOk result (λ step. KeepsTime (step_of step)) }
-{
+fn sent(alloc: Global, fed: u16, endpoint: u16, dest: &str) -> Result<MachineStep, Fail> {
     Ok(MachineStep::Send {
         fed,
         endpoint,
@@ -82,13 +77,13 @@ fn filtered(alloc: Global, per_million: u32) -> Result<Plan, Fail> {
 // The machine of a plan whose federates have their entry.
 fn entered(alloc: Global, plan: Plan) -> Result<Machine, Fail> {
     let count = plan.count();
-    let mut machine = Machine::open(alloc, plan)?;
-    machine.step(MachineStep::Begin)?;
+    let mut machine = open(alloc, plan)?;
+    go(&mut machine, MachineStep::Begin)?;
     for f in 0..count {
-        machine.step(MachineStep::Enter(f))?;
+        go(&mut machine, MachineStep::Enter(f))?;
     }
     for f in 0..count {
-        machine.step(MachineStep::Grant(f))?;
+        go(&mut machine, MachineStep::Grant(f))?;
     }
     Ok(machine)
 }
@@ -139,24 +134,39 @@ fn told(
     Ok(())
 }
 
-// The machine takes a step that it has to take.
-fn go(machine: &mut Machine, step: MachineStep) -> Result<(), Fail>
-    requires { KeepsTime (step_of step) }
-{
-    machine.step(step)?;
-    Ok(())
+// What federates of filtered messages do.
+#[derive(Clone, Copy)]
+enum Do {
+    Ask(u16, u32),
+    Grant(u16),
+    // A sends to B
+    Send,
 }
 
-// The machine once A has sent to B at 10, and C is granted for the first time behind its entry.
+// A sends to B at 10, and C is granted for the first time behind its entry.
+const SENDING: [Do; 7] = [
+    Do::Ask(0, 10),
+    Do::Ask(1, 200),
+    Do::Ask(2, 100),
+    Do::Grant(0),
+    Do::Send,
+    Do::Ask(0, 200),
+    Do::Grant(2),
+];
+
+fn step_of(alloc: Global, step: Do) -> Result<MachineStep, Fail> {
+    match step {
+        Do::Ask(f, time) => Ok(asked(f, u64::from(time))),
+        Do::Grant(f) => Ok(MachineStep::Grant(f)),
+        Do::Send => sent(alloc, 0, 0, "B/e"),
+    }
+}
+
 fn after_a_send(alloc: Global, per_million: u32) -> Result<Machine, Fail> {
     let mut machine = entered(alloc, filtered(alloc, per_million)?)?;
-    go(&mut machine, asked(0, 10))?;
-    go(&mut machine, asked(1, 200))?;
-    go(&mut machine, asked(2, 100))?;
-    go(&mut machine, MachineStep::Grant(0))?;
-    go(&mut machine, sent(alloc, 0, 0, "B/e")?)?;
-    go(&mut machine, asked(0, 200))?;
-    go(&mut machine, MachineStep::Grant(2))?;
+    for step in SENDING {
+        go(&mut machine, step_of(alloc, step)?)?;
+    }
     Ok(machine)
 }
 
@@ -170,7 +180,7 @@ fn a_message_passes_its_filters(rt: HostRuntime) -> Result<(), Fail> {
         (607_536, false),
     ] {
         let machine = after_a_send(rt.alloc(), per_million)?;
-        let log = machine.logs().feds.get(2).ok_or("no log")?;
+        let log = logs(&machine).feds.get(2).ok_or("no log")?;
         let time = if kept { 14 } else { 100 };
         told(&rt, rt.alloc(), log.entries.as_slice().last(), time, kept)?;
     }
@@ -188,7 +198,7 @@ fn callers(alloc: Global) -> Result<Machine, Fail> {
     enter(&mut registry, federate(alloc, "A", None)?)?;
     enter(&mut registry, b)?;
     enter(&mut registry, federate(alloc, "C", Some("A/e"))?)?;
-    Ok(Machine::open(alloc, plan_of_all(alloc, &registry)?)?)
+    open(alloc, plan_of_all(alloc, &registry)?)
 }
 
 // A federate sends from an endpoint to a name; the answer.
@@ -202,86 +212,72 @@ fn answers(
     calls: &[Call],
 ) -> Result<(), Fail> {
     for (f, endpoint, dest, refusal) in calls {
-        let before = format!(in alloc; "{machine:?}")?;
-        let answer = machine.step(sent(alloc, *f, *endpoint, dest)?);
-        assert_eq!(rt; answer.err(), refusal.map(Unlawful::Refused));
-        let after = format!(in alloc; "{machine:?}")?;
-        let same = after.as_str() == before.as_str();
-        assert_eq!(rt; same, refusal.is_some(), "{before} {dest}");
+        let step = sent(alloc, *f, *endpoint, dest)?;
+        steps::answers(rt, alloc, machine, step, refusal.map(Unlawful::Refused))?;
     }
     Ok(())
 }
 
+const CREATED: [Call; 1] = [(0, 9, "X", Some(CallRefusal::WrongPhase(Phase::Created)))];
+
+const BEGUN: [Call; 6] = [
+    (0, 1, "B/e", Some(CallRefusal::NotOwner)),
+    (0, 0, "X/e", Some(CallRefusal::UnknownEndpoint)),
+    (0, 0, "", Some(CallRefusal::UnknownEndpoint)),
+    (1, 0, "A/e", Some(CallRefusal::NotATarget)),
+    (0, 0, "B/e", None),
+    (2, 0, "", None),
+];
+
+const ENDED: [Call; 1] = [(0, 9, "X", Some(CallRefusal::Ended(Cause::Finished)))];
+
 #[test]
 fn sends_are_refused_in_order(rt: HostRuntime) -> Result<(), Fail> {
     let mut machine = callers(rt.alloc())?;
-    let created = Some(CallRefusal::WrongPhase(Phase::Created));
-    answers(&rt, rt.alloc(), &mut machine, &[(0, 9, "X", created)])?;
-    machine.step(MachineStep::Begin)?;
-    let calls = [
-        (0, 1, "B/e", Some(CallRefusal::NotOwner)),
-        (0, 0, "X/e", Some(CallRefusal::UnknownEndpoint)),
-        (0, 0, "", Some(CallRefusal::UnknownEndpoint)),
-        (1, 0, "A/e", Some(CallRefusal::NotATarget)),
-        (0, 0, "B/e", None),
-        (2, 0, "", None),
-    ];
-    answers(&rt, rt.alloc(), &mut machine, &calls)?;
+    answers(&rt, rt.alloc(), &mut machine, &CREATED)?;
+    go(&mut machine, MachineStep::Begin)?;
+    answers(&rt, rt.alloc(), &mut machine, &BEGUN)?;
     for f in 0..3 {
-        machine.step(MachineStep::Finish(f))?;
+        go(&mut machine, MachineStep::Finish(f))?;
     }
-    let ended = Some(CallRefusal::Ended(Cause::Finished));
-    answers(&rt, rt.alloc(), &mut machine, &[(0, 9, "X", ended)])
+    answers(&rt, rt.alloc(), &mut machine, &ENDED)
+}
+
+const AT_THE_HORIZON: [Call; 2] = [
+    (0, 1, "A/e", Some(CallRefusal::NotOwner)),
+    (0, 0, "A/e", Some(CallRefusal::PastHorizon)),
+];
+
+// The plan of one federate with an endpoint.
+fn plan_of_one(alloc: Global) -> Result<Plan, Fail> {
+    let mut registry = Registry::new(alloc);
+    enter(&mut registry, federate(alloc, "A", None)?)?;
+    plan_of_all(alloc, &registry)
 }
 
 #[test]
 fn nothing_is_sent_past_the_horizon(rt: HostRuntime) -> Result<(), Fail> {
-    let mut registry = Registry::new(rt.alloc());
-    enter(&mut registry, federate(rt.alloc(), "A", None)?)?;
-    let mut machine = entered(rt.alloc(), plan_of_all(rt.alloc(), &registry)?)?;
+    let mut machine = entered(rt.alloc(), plan_of_one(rt.alloc())?)?;
     go(&mut machine, asked(0, MAX))?;
     go(&mut machine, MachineStep::Grant(0))?;
-    let calls = [
-        (0, 1, "A/e", Some(CallRefusal::NotOwner)),
-        (0, 0, "A/e", Some(CallRefusal::PastHorizon)),
-    ];
-    answers(&rt, rt.alloc(), &mut machine, &calls)
+    answers(&rt, rt.alloc(), &mut machine, &AT_THE_HORIZON)
 }
 
-fn words(alloc: Global, times: (u64, u64), word: Word) -> Result<Script, Fail>
-    requires first { times.0 ≤ 1000 }
-    requires last { times.1 ≤ 1000 }
-    requires word { NamesTime word }
-    ensures { IfOk result IsCourse }
-{
-    let mut words = Words::new(alloc);
-    words.push(Word::Request(times.0))?;
-    words.push(word)?;
-    words.push(Word::Request(times.1))?;
-    Ok(Script::of(Items::new(alloc), words))
-}
+// A sends `hi` to B at 50, and B sends it back.
+const ECHOING: [Speech; 2] = [
+    (None, &[Say::Ask(50), Say::Send("B/e", "hi"), Say::Ask(80)]),
+    (None, &[Say::Ask(100), Say::Echo, Say::Ask(100)]),
+];
 
-// A sends `hi` to B at 50, and B, on which a delay of 10 stands, sends it back.
-fn echoing(alloc: Global) -> Result<Scenario, Fail> {
+// A, and B on which a delay of 10 stands.
+fn delayed(alloc: Global) -> Result<Plan, Fail> {
     let mut b = federate(alloc, "B", None)?;
     b.filters
         .push(filter(alloc, "B/e", FilterKind::Delay(10))?)?;
     let mut registry = Registry::new(alloc);
     enter(&mut registry, federate(alloc, "A", None)?)?;
     enter(&mut registry, b)?;
-    let mut scripts = Items::new(alloc);
-    let send = Word::Send {
-        endpoint: 0,
-        destination: Text::from_str(alloc, "B/e")?,
-        payload: payload(alloc, "hi")?,
-    };
-    scripts.push(words(alloc, (50, 80), send)?)?;
-    scripts.push(words(alloc, (100, 100), Word::Echo(0))?)?;
-    let plan = plan_of_all(alloc, &registry)?;
-    if plan.count() != 2 {
-        return Err(Fail::from("two federates"));
-    }
-    Ok(Scenario { plan, scripts })
+    plan_of_all(alloc, &registry)
 }
 
 // A grant, and from where to where the message is that it hands over, if it does.
@@ -305,7 +301,8 @@ fn hears(rt: &impl Abort, alloc: Global, entry: &LogEntry, heard: &Heard) -> Res
 
 #[test]
 fn an_echo_answers_its_letter(rt: HostRuntime) -> Result<(), Fail> {
-    let logs = reference(rt.alloc(), echoing(rt.alloc())?)?;
+    let scenario = scenario_over(rt.alloc(), delayed(rt.alloc())?, &ECHOING)?;
+    let logs = run(rt.alloc(), scenario)?;
     assert_eq!(rt; logs.feds.len(), 2);
     for (log, heard) in logs.feds.as_slice().iter().zip(HEARD) {
         assert_eq!(rt; log.entries.len(), heard.len());

@@ -1,11 +1,13 @@
 // Federations whose federates act in other orders than that of the reference run.
 use super::messages::{filter, is_message, payload};
 use super::plans::{endpoint, enter, nameless, plan_of_all, publication, subscription};
-use super::values::{Handed, Say, Speech, grant_at, is_handed, scenario_over};
+use super::runs::{Say, Speech, run, run_in_order, scenario_over};
+use super::steps::ends_so;
+use super::values::{Handed, grant_at, is_handed};
 use due_queue::Item;
 use hel_values::{EndRef, ValueKind};
 use interface_names::{FederateRecord, FilterKind, Registry};
-use one_place::{FedLog, LogEntry, Logs, Plan, Scenario, logs_in_order, reference};
+use one_place::{FedLog, LogEntry, Logs, Plan, Scenario};
 use std::alloc::Global;
 use std::process::Abort;
 use std::test::Fail;
@@ -296,9 +298,7 @@ fn tells(
         before = Some(*time);
         hears(rt, alloc, target, entry, *hear)?;
     }
-    let end = format!(in alloc; "{:?}", log.end)?;
-    assert_eq!(rt; end.as_str(), "Ended(Finished)");
-    Ok(())
+    ends_so(rt, alloc, log, "Ended(Finished)")
 }
 
 fn tell(rt: &impl Abort, alloc: Global, logs: &Logs, told: &[&[Told]]) -> Result<(), Fail> {
@@ -331,7 +331,7 @@ fn orders_tell(
     for first in 0..100 {
         let order = order_from(alloc, first)?;
         let scenario = scenario_of(alloc, members, speeches)?;
-        let logs = logs_in_order(alloc, scenario, &order)?;
+        let logs = run_in_order(alloc, scenario, &order)?;
         let text = format!(in alloc; "{logs:?}")?;
         assert_eq!(rt; text.as_str(), wanted, "{first}");
     }
@@ -342,7 +342,7 @@ fn orders_tell(
 fn all_orders_have_the_reference_logs(rt: HostRuntime) -> Result<(), Fail> {
     for (members, speeches, told) in [MARKET, ITERATION, RING] {
         let scenario = scenario_of(rt.alloc(), members, speeches)?;
-        let logs = reference(rt.alloc(), scenario)?;
+        let logs = run(rt.alloc(), scenario)?;
         tell(&rt, rt.alloc(), &logs, told)?;
         let wanted = format!(in rt.alloc(); "{logs:?}")?;
         orders_tell(&rt, rt.alloc(), members, speeches, wanted.as_str())?;

@@ -23,17 +23,8 @@ const PUBLICATIONS: [&str; 2] = ["x", "y"];
 pub const THREE: [Row; 3] = [(&[ValueKind::Int], &[]), (&[], &["A/x"]), (&[], &[])];
 
 /// The settings of a federate that names none.
-pub fn plain() -> Settings {
-    Settings {
-        period: 0,
-        offset: 0,
-        time_delta: 0,
-        input_delay: 0,
-        output_delay: 0,
-        uninterruptible: false,
-        wait: false,
-        max_iterations: 50,
-    }
+fn plain() -> Result<Settings, Fail> {
+    Ok(Settings::of(0, 0, 0, 0, 0, false, false, 50).ok_or("settings")?)
 }
 
 /// A list of names.
@@ -46,10 +37,10 @@ pub fn texts(alloc: Global, names: &[&'static str]) -> Result<Items<Text>, OutOf
 }
 
 /// A federate of this name with no interfaces.
-pub fn nameless(alloc: Global, name: &str) -> Result<FederateRecord, OutOfMemory> {
+pub fn nameless(alloc: Global, name: &str) -> Result<FederateRecord, Fail> {
     Ok(FederateRecord {
         name: Text::from_str(alloc, name)?,
-        settings: plain(),
+        settings: plain()?,
         publications: Items::new(alloc),
         inputs: Items::new(alloc),
         endpoints: Items::new(alloc),
@@ -164,8 +155,8 @@ pub enum Set {
     Input,
 }
 
-fn settings_of(set: Set) -> Settings {
-    let mut settings = plain();
+fn settings_of(set: Set) -> Result<Settings, Fail> {
+    let mut settings = plain()?;
     match set {
         Set::Plain => {}
         Set::Grid => {
@@ -179,7 +170,7 @@ fn settings_of(set: Set) -> Settings {
         Set::Output => settings.output_delay = 5,
         Set::Input => settings.input_delay = 2,
     }
-    settings
+    Ok(settings)
 }
 
 /// The plan of a table whose first federates have these settings.
@@ -187,7 +178,7 @@ pub fn plan_with(alloc: Global, rows: &[Row], sets: &[Set]) -> Result<Plan, Fail
     let mut registry = Registry::new(alloc);
     for (at, (name, row)) in FEDERATES.iter().zip(rows).enumerate() {
         let mut federate = federate_of(alloc, name, row)?;
-        federate.settings = settings_of(sets.get(at).copied().unwrap_or(Set::Plain));
+        federate.settings = settings_of(sets.get(at).copied().unwrap_or(Set::Plain))?;
         enter(&mut registry, federate)?;
     }
     plan_of_all(alloc, &registry)

@@ -1,7 +1,7 @@
 // Federates of other settings than the plain ones, by scripts.
 use super::plans::{Row, Set};
-use super::values::{ALONE, ENTRY, INT, PAIR, Say, Speech, Told, scenario_of, tell};
-use one_place::reference;
+use super::runs::{Say, Speech, run, scenario_of};
+use super::values::{ALONE, ENTRY, INT, PAIR, Told, tell};
 use std::test::Fail;
 
 // Two federates that hear each other.
@@ -143,7 +143,7 @@ const PLAYS: [Play; 9] = [
 fn settings_hold_in_reference_runs(rt: HostRuntime) -> Result<(), Fail> {
     for (rows, sets, speeches, told) in PLAYS {
         let scenario = scenario_of(rt.alloc(), rows, sets, speeches)?;
-        tell(&rt, &reference(rt.alloc(), scenario)?, told)?;
+        tell(&rt, &run(rt.alloc(), scenario)?, told);
     }
     Ok(())
 }

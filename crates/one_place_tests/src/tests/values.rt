@@ -1,18 +1,12 @@
 // Values on their way, by steps of the machine and by scripts.
-ghost use Rattle.std.specs.Prelude.{IfOk};
-ghost use Rattle.fed_script.specs.Script.{IsCourse, IsInitial, NamesTime};
-ghost use Rattle.machine_laws.specs.Machine.{KeepsTime};
-ghost use Rattle.one_place.specs.Step.{step_of};
-
-use super::messages::payload;
-use super::plans::{Row, Set, plan_of, plan_with};
+use super::plans::{Row, plan_of};
+use super::runs::{Say, Speech, run, scenario_of};
+use super::steps::{asked, ends_so, go, logs, open};
 use due_queue::{Content, Item};
-use fed_script::{Action, Script, Word, Words};
-use hel_lists::{Items, Text};
 use hel_values::{EndRef, Value, ValueKind};
 use helics_time::MAX;
-use iteration_rules::{Kind, Mode};
-use one_place::{FedLog, Logs, Machine, MachineStep, Plan, Scenario, reference};
+use iteration_rules::Kind;
+use one_place::{FedLog, Logs, Machine, MachineStep};
 use std::alloc::Global;
 use std::process::Abort;
 use std::test::Fail;
@@ -48,33 +42,27 @@ pub type Handed = (u16, u64, u16, i64, (u64, u64));
 // A grant at this time and micro step, and what it hands over.
 pub type Told = (u64, u64, &'static [Handed]);
 
-fn step_of(step: Do) -> MachineStep
-    ensures { KeepsTime (step_of result) }
-{
+fn step_of(step: Do) -> MachineStep {
     match step {
         Publish(fed, number) => MachineStep::Publish {
             fed,
             publication: 0,
             value: Value::Int(number),
         },
-        Ask(fed, time) => MachineStep::Request {
-            fed,
-            time: u64::from(time),
-            mode: Mode::Next,
-        },
+        Ask(fed, time) => asked(fed, u64::from(time)),
         Granted(fed) => MachineStep::Grant(fed),
     }
 }
 
 fn machine_after(alloc: Global, rows: &[Row], steps: &[Do]) -> Result<Machine, Fail> {
-    let mut machine = Machine::open(alloc, plan_of(alloc, rows)?)?;
-    machine.step(MachineStep::Begin)?;
-    for f in 0..machine.count() {
-        machine.step(MachineStep::Enter(f as u16))?;
-        machine.step(MachineStep::Grant(f as u16))?;
+    let mut machine = open(alloc, plan_of(alloc, rows)?)?;
+    go(&mut machine, MachineStep::Begin)?;
+    for (f, _) in rows.iter().enumerate() {
+        go(&mut machine, MachineStep::Enter(f as u16))?;
+        go(&mut machine, MachineStep::Grant(f as u16))?;
     }
     for step in steps {
-        machine.step(step_of(*step))?;
+        go(&mut machine, step_of(*step))?;
     }
     Ok(machine)
 }
@@ -111,28 +99,35 @@ pub fn grant_at(before: Option<u64>, time: u64, micro: u64) -> Grant {
     }
 }
 
-// A log tells this.
-fn tells(rt: &impl Abort, target: usize, log: &FedLog, told: &[Told]) -> Result<(), Fail> {
-    assert_eq!(rt; log.entries.len(), told.len());
-    let mut before = None;
-    for (entry, (time, micro, handed)) in log.entries.as_slice().iter().zip(told) {
-        let grant = grant_at(before, *time, *micro);
-        before = Some(*time);
-        assert_eq!(rt; entry.grant, grant);
-        assert_eq!(rt; entry.items.len(), handed.len(), "{target} {grant:?}");
-        for (item, wanted) in entry.items.as_slice().iter().zip(*handed) {
-            assert!(rt; is_handed(item, target, wanted), "{item:?} {wanted:?}");
-        }
-    }
-    Ok(())
+// An item that was handed over is the wanted one.
+fn is_wanted(rt: &impl Abort, item: &Item, target: usize, wanted: &Handed) {
+    assert!(rt; is_handed(item, target, wanted), "{target} {wanted:?}");
 }
 
-pub fn tell(rt: &impl Abort, logs: &Logs, told: &[&[Told]]) -> Result<(), Fail> {
+// A grant hands over these.
+fn hands_over(rt: &impl Abort, target: usize, items: &[Item], handed: &[Handed]) {
+    assert_eq!(rt; items.len(), handed.len(), "{target}");
+    for (item, wanted) in items.iter().zip(handed) {
+        is_wanted(rt, item, target, wanted);
+    }
+}
+
+// A log tells this.
+fn tells(rt: &impl Abort, target: usize, log: &FedLog, told: &[Told]) {
+    assert_eq!(rt; log.entries.len(), told.len(), "{target}");
+    let mut before = None;
+    for (entry, (time, micro, handed)) in log.entries.as_slice().iter().zip(told) {
+        assert_eq!(rt; entry.grant, grant_at(before, *time, *micro));
+        before = Some(*time);
+        hands_over(rt, target, entry.items.as_slice(), handed);
+    }
+}
+
+pub fn tell(rt: &impl Abort, logs: &Logs, told: &[&[Told]]) {
     assert_eq!(rt; logs.feds.len(), told.len());
     for (target, (log, wanted)) in logs.feds.as_slice().iter().zip(told).enumerate() {
-        tells(rt, target, log, wanted)?;
+        tells(rt, target, log, wanted);
     }
-    Ok(())
 }
 
 // A plan, steps of its machine, and what the logs tell then.
@@ -238,110 +233,9 @@ const CASES: [Case; 5] = [
 fn values_come_at_their_dues(rt: HostRuntime) -> Result<(), Fail> {
     for (rows, steps, told) in CASES {
         let machine = machine_after(rt.alloc(), rows, steps)?;
-        tell(&rt, machine.logs(), told)?;
+        tell(&rt, logs(&machine), told);
     }
     Ok(())
-}
-
-// A word of a script.
-#[derive(Clone, Copy)]
-pub enum Say {
-    Ask(u64),
-    AskLast,
-    Force(u64),
-    IfNeeded(u64),
-    Publish(i64),
-    // publishes the number of the first input and so much more
-    Add(i64),
-    // sends from the first endpoint to a name
-    Send(&'static str, &'static str),
-    // answers the letters of the first endpoint
-    Echo,
-}
-
-fn sending(alloc: Global, to: &str, data: &str) -> Result<Word, Fail>
-    ensures { IfOk result NamesTime }
-{
-    Ok(Word::Send {
-        endpoint: 0,
-        destination: Text::from_str(alloc, to)?,
-        payload: payload(alloc, data)?,
-    })
-}
-
-fn word_of(alloc: Global, say: Say) -> Result<Word, Fail>
-    ensures { IfOk result NamesTime }
-{
-    match say {
-        Say::Ask(time) => Ok(Word::Request(time.min(MAX))),
-        Say::AskLast => Ok(Word::Request(MAX)),
-        Say::Force(time) => Ok(Word::Iterate {
-            time: time.min(MAX),
-            mode: Mode::Force,
-        }),
-        Say::IfNeeded(time) => Ok(Word::Iterate {
-            time: time.min(MAX),
-            mode: Mode::IfNeeded,
-        }),
-        Say::Publish(number) => Ok(Word::Publish {
-            publication: 0,
-            value: Value::Int(number),
-        }),
-        Say::Add(add) => Ok(Word::PublishSum {
-            publication: 0,
-            input: 0,
-            add,
-        }),
-        Say::Send(to, data) => sending(alloc, to, data),
-        Say::Echo => Ok(Word::Echo(0)),
-    }
-}
-
-fn initial_of(alloc: Global, number: Option<i64>) -> Result<Items<Action>, Fail>
-    ensures { IfOk result IsInitial }
-{
-    let mut initial = Items::new(alloc);
-    if let Some(number) = number {
-        initial.push(Action::Publish {
-            publication: 0,
-            value: Value::Int(number),
-        })?;
-    }
-    Ok(initial)
-}
-
-// What a federate publishes before it enters, and then says.
-pub type Speech = (Option<i64>, &'static [Say]);
-
-fn script_of(alloc: Global, speech: &Speech) -> Result<Script, Fail>
-    ensures { IfOk result IsCourse }
-{
-    let mut words = Words::new(alloc);
-    for say in speech.1 {
-        words.push(word_of(alloc, *say)?)?;
-    }
-    Ok(Script::of(initial_of(alloc, speech.0)?, words))
-}
-
-pub fn scenario_of(
-    alloc: Global,
-    rows: &[Row],
-    sets: &[Set],
-    speeches: &[Speech],
-) -> Result<Scenario, Fail> {
-    scenario_over(alloc, plan_with(alloc, rows, sets)?, speeches)
-}
-
-// What the federates of a plan say.
-pub fn scenario_over(alloc: Global, plan: Plan, speeches: &[Speech]) -> Result<Scenario, Fail> {
-    let mut scripts = Items::new(alloc);
-    for speech in speeches {
-        scripts.push(script_of(alloc, speech)?)?;
-    }
-    if scripts.len() != usize::from(plan.count()) {
-        return Err(Fail::from("a script for each"));
-    }
-    Ok(Scenario { plan, scripts })
 }
 
 // A plan, what its federates say, what their logs tell, and how they end by their derived texts.
@@ -448,11 +342,10 @@ const PLAYS: [Play; 7] = [
 fn scripts_play_their_reference_runs(rt: HostRuntime) -> Result<(), Fail> {
     for (rows, speeches, told, ends) in PLAYS {
         let scenario = scenario_of(rt.alloc(), rows, &[], speeches)?;
-        let logs = reference(rt.alloc(), scenario)?;
-        tell(&rt, &logs, told)?;
+        let logs = run(rt.alloc(), scenario)?;
+        tell(&rt, &logs, told);
         for (log, end) in logs.feds.as_slice().iter().zip(ends) {
-            let stands = format!(in rt.alloc(); "{:?}", log.end)?;
-            assert_eq!(rt; stands.as_str(), *end);
+            ends_so(&rt, rt.alloc(), log, end)?;
         }
     }
     Ok(())

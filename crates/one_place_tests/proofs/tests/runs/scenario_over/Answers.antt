@@ -3,7 +3,7 @@ use Rattle.std.proofs.lemmas.List.{length_push}
 use Rattle.hel_lists.specs.Members.{Each}
 use Rattle.fed_script.specs.Script.{Course, IsCourse}
 use Rattle.one_place_tests.proofs.Held.{each_push}
-use Rattle.one_place_tests.proofs.tests.values.scenario_over.Goals as goal
+use Rattle.one_place_tests.proofs.tests.runs.scenario_over.Goals as goal
 
 pub loop-speech-preserved : goal.loop-speech-preserved
 loop-speech-preserved c =
