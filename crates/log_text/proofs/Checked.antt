@@ -1,19 +1,23 @@
 -- Pieces and lines of a plan's text.
-use Rattle.std.proofs.Common.{◌≡◌, ◌∙◌, ℕ, ◌+◌, List, [], ◌++◌, ap, sym, append_assoc, add-one}
-use Rattle.federation_plan.specs.Plan.{Federation}
-use Rattle.log_text.specs.Check.{check_line_of, check_lines}
+use Rattle.std.proofs.Common.{◌≡◌, ◌∙◌, ℕ, suc, ◌+◌, ◌-◌, ◌<◌, List, [], ◌∷◌, ◌++◌, ap, sym, append_assoc, arith}
+use Rattle.std.specs.Prelude.{codes}
+use Rattle.std.specs.List.{flat_map, range_with_len}
+use Rattle.log_text.specs.Text.{line}
 
--- three pieces, one behind another
-pub three_pieces : (out a b c first second third : List ℕ) → first ≡ out ++ a → second ≡ first ++ b → third ≡ second ++ c → third ≡ out ++ (a ++ b ++ c)
-three_pieces out a b c first second third is_first is_second is_third =
-    is_third
-    ∙ ap (λ (l : List ℕ). l ++ c) (is_second ∙ ap (λ (l : List ℕ). l ++ b) is_first ∙ append_assoc out a b)
-    ∙ append_assoc out (a ++ b) c
+-- a federate's line in two pieces
+pub two_pieces : (out first second number name core ancestors : List ℕ) → first ≡ out ++ codes "federate " ++ number ++ 32 ∷ name →
+    second ≡ first ++ line (codes " core " ++ core ++ codes " ancestors " ++ ancestors) →
+    second ≡ out ++ line (codes "federate " ++ number ++ 32 ∷ name ++ codes " core " ++ core ++ codes " ancestors " ++ ancestors)
+two_pieces out first second number name core ancestors is_first is_second =
+    is_second ∙ ap (λ (l : List ℕ). l ++ line (codes " core " ++ core ++ codes " ancestors " ++ ancestors)) is_first ∙ simp append_assoc
 
 -- one line more
-pub one_more : (p : Federation) (n : ℕ) (before out next : List ℕ) → out ≡ before ++ check_lines p n → next ≡ out ++ check_line_of p n → next ≡ before ++ check_lines p (n + 1)
-one_more p n before out next so_far more =
-    more ∙ ap (λ (l : List ℕ). l ++ check_line_of p n) so_far ∙ append_assoc before (check_lines p n) (check_line_of p n) ∙ ap (λ (m : ℕ). before ++ check_lines p m) (sym (add-one n))
+pub one_more : (text : ℕ → List ℕ) (n k : ℕ) (out next all : List ℕ) → k < n → out ++ flat_map text (range_with_len k (n - k)) ≡ all → next ≡ out ++ text k →
+    next ++ flat_map text (range_with_len (k + 1) (n - (k + 1))) ≡ all
+one_more text n k out next all less so_far more =
+    let rest : List ℕ = flat_map text (range_with_len (k + 1) (n - (k + 1))) in
+    let one : n - k ≡ suc (n - (k + 1)) = omega (arith, less) in
+    ap (λ (l : List ℕ). l ++ rest) more ∙ append_assoc out (text k) rest ∙ sym (ap (λ m. out ++ flat_map text (range_with_len k m)) one) ∙ so_far
 
 -- what is put behind nothing stands alone
 pub behind_nothing : (out text next : List ℕ) → out ≡ [] → next ≡ out ++ text → next ≡ text

@@ -1,13 +1,12 @@
 -- The text of logs: each line ends with a line feed.
-use Rattle.std.specs.Prelude.{ℕ, suc, List, [], ◌∷◌, ◌++◌, codes, decimal}
-use Rattle.std.specs.List.{flat_map}
+use Rattle.std.specs.Prelude.{ℕ, List, [], ◌∷◌, ◌++◌, codes, decimal}
+use Rattle.std.specs.List.{flat_map, enumerate_from}
 use Rattle.std.specs.Fmt.{signed_decimal}
 use Rattle.json.specs.Print.{quoted}
 use Rattle.hex.specs.Hex.{encode_lower}
 use Rattle.helics_time.specs.Time.{time_text}
 use Rattle.iteration_rules.specs.declared.Kind.{Kind}
 use Rattle.iteration_rules.specs.declared.Kind.TheVariants.{NextStep, Iterating}
-use Rattle.hel_values.specs.declared.EndRef.{EndRef}
 use Rattle.hel_values.specs.declared.Value.{Value}
 use Rattle.hel_values.specs.declared.Value.TheVariants.{Int as IntValue, Text as TextValue, Bytes as BytesValue}
 use Rattle.due_queue.specs.Item.{Parcel}
@@ -22,21 +21,10 @@ use Rattle.machine_laws.specs.declared.logs.LogEnd.{LogEnd}
 use Rattle.machine_laws.specs.declared.logs.LogEnd.TheVariants.{Ended, FailedText, Open}
 use Rattle.machine_laws.specs.declared.logs.FedLog.{FedLog}
 use Rattle.interface_names.specs.declared.records.FederateRecord.{FederateRecord}
-use Rattle.federation_plan.specs.Interfaces.{federate_at, publication_at, endpoint_at, one_in, pub_name, end_name}
+use Rattle.federation_plan.specs.Interfaces.{federate_at, publication_interface, endpoint_at, pub_name, end_name}
 
 abbrev pub line : List ℕ → List ℕ
 line text = text ++ 10 ∷ []
-
--- ---- what the federation calls a federate, a publication and an endpoint, by its number or reference
-
-abbrev pub federate_name : List FederateRecord → ℕ → List ℕ
-federate_name feds f = (federate_at feds f).name
-
-abbrev pub publication_name : List FederateRecord → EndRef → List ℕ
-publication_name feds p = pub_name (one_in (federate_name feds p.fed) p.fed p.index (publication_at feds p))
-
-abbrev pub endpoint_name : List FederateRecord → EndRef → List ℕ
-endpoint_name feds e = end_name (endpoint_at feds e)
 
 -- ---- a grant, and what it handed over
 
@@ -56,11 +44,11 @@ value_text (BytesValue bytes) = codes "bytes " ++ encode_lower bytes
 -- the line of an item: a value for an input, or a message for an endpoint with its original source and destination
 abbrev pub content_text : List FederateRecord → Content → List ℕ
 content_text feds (ValueContent input publication value) =
-    line (codes "value " ++ decimal input ++ codes " from " ++ publication_name feds publication ++ 32 ∷ value_text value)
+    line (codes "value " ++ decimal input ++ codes " from " ++ pub_name (publication_interface feds publication) ++ 32 ∷ value_text value)
 content_text feds (Message m) =
     line (codes "message " ++ decimal m.destination.index
-    ++ codes " from " ++ endpoint_name feds m.original_source
-    ++ codes " for " ++ endpoint_name feds m.original_destination
+    ++ codes " from " ++ end_name (endpoint_at feds m.original_source)
+    ++ codes " for " ++ end_name (endpoint_at feds m.original_destination)
     ++ codes " at " ++ time_text m.time
     ++ codes " bytes " ++ encode_lower m.payload)
 
@@ -93,15 +81,10 @@ end_words (Open phase) = phase_word phase
 -- a federate's number and name, its grants, and its end
 abbrev pub fed_text : List FederateRecord → ℕ → FedLog → List ℕ
 fed_text feds k log =
-    line (codes "federate " ++ decimal k ++ 32 ∷ federate_name feds k)
+    line (codes "federate " ++ decimal k ++ 32 ∷ (federate_at feds k).name)
     ++ flat_map (entry_text feds) log.entries
     ++ line (codes "end " ++ end_words log.end)
 
--- those of all federates, by number from k on
-abbrev pub logs_from : List FederateRecord → ℕ → List FedLog → List ℕ
-logs_from feds k [] = []
-logs_from feds k (log ∷ logs) = fed_text feds k log ++ logs_from feds (suc k) logs
-
--- the text of the logs of federates
+-- the text of the logs of federates, which are numbered from 0 on
 abbrev pub logs_text : List FederateRecord → List FedLog → List ℕ
-logs_text feds logs = logs_from feds 0 logs
+logs_text feds logs = flat_map (λ (numbered : ℕ × FedLog). fed_text feds numbered.0 numbered.1) (enumerate_from 0 logs)

@@ -1,6 +1,8 @@
-ghost use Rattle.std.specs.Prelude.{◌≡◌, ◌<◌, ◌++◌, length, IfOk, OnOk, string_bytes};
+ghost use Rattle.std.specs.Prelude.{◌≡◌, ◌<◌, ◌∷◌, ◌++◌, length, IfOk, OnOk, codes, decimal, string_bytes};
+ghost use Rattle.std.specs.List.{flat_map, range_with_len};
 ghost use Rattle.federation_plan.specs.Tree.{node_at};
-ghost use Rattle.log_text.specs.Check.{named, at_core, with_ancestors, check_line, check_line_of, check_lines, pair_line, cycle_line, check_of, IsCheckText};
+ghost use Rattle.log_text.specs.Text.{line};
+ghost use Rattle.log_text.specs.Check.{check_line, cycle_line, check_of, IsCheckText};
 
 use crate::names::federate_name;
 use federation_plan::{NodeRow, Plan};
@@ -19,23 +21,16 @@ fn node_name(nodes: &[NodeRow], number: u16) -> &str
 }
 
 fn write_head(out: &mut String, number: u16, name: &str) -> Result<(), OutOfMemory>
-    ensures { OnOk result (string_bytes out.new ≡ string_bytes out.old ++ named number name.now) }
+    ensures { OnOk result (string_bytes out.new ≡ string_bytes out.old ++ codes "federate " ++ decimal number ++ 32 ∷ name.now) }
 {
     write!(out, "federate {number} {name}")?;
     Ok(())
 }
 
-fn write_core(out: &mut String, core: &str) -> Result<(), OutOfMemory>
-    ensures { OnOk result (string_bytes out.new ≡ string_bytes out.old ++ at_core core.now) }
+fn write_rest(out: &mut String, core: &str, ancestors: usize) -> Result<(), OutOfMemory>
+    ensures { OnOk result (string_bytes out.new ≡ string_bytes out.old ++ line (codes " core " ++ core.now ++ codes " ancestors " ++ decimal ancestors)) }
 {
-    write!(out, " core {core}")?;
-    Ok(())
-}
-
-fn write_ancestors(out: &mut String, count: usize) -> Result<(), OutOfMemory>
-    ensures { OnOk result (string_bytes out.new ≡ string_bytes out.old ++ with_ancestors count) }
-{
-    writeln!(out, " ancestors {count}")?;
+    writeln!(out, " core {core} ancestors {ancestors}")?;
     Ok(())
 }
 
@@ -46,17 +41,17 @@ fn write_line(
     core: &str,
     ancestors: usize,
 ) -> Result<(), OutOfMemory>
-    ensures { OnOk result (string_bytes out.new ≡ string_bytes out.old ++ check_line number name.now core.now ancestors) }
+    ensures { OnOk result (string_bytes out.new ≡ string_bytes out.old
+        ++ line (codes "federate " ++ decimal number ++ 32 ∷ name.now ++ codes " core " ++ core.now ++ codes " ancestors " ++ decimal ancestors)) }
 {
     write_head(out, number, name)?;
-    write_core(out, core)?;
-    write_ancestors(out, ancestors)?;
+    write_rest(out, core, ancestors)?;
     Ok(())
 }
 
 fn write_federate(out: &mut String, plan: &Plan, number: u16) -> Result<(), OutOfMemory>
     requires { number < length plan.now.federates }
-    ensures { OnOk result (string_bytes out.new ≡ string_bytes out.old ++ check_line_of plan.now number) }
+    ensures { OnOk result (string_bytes out.new ≡ string_bytes out.old ++ check_line plan.now number) }
 {
     let name = federate_name(plan.federates(), usize::from(number));
     let core = node_name(plan.tree().nodes.as_slice(), plan.core_of(number));
@@ -64,7 +59,7 @@ fn write_federate(out: &mut String, plan: &Plan, number: u16) -> Result<(), OutO
 }
 
 fn write_federates(out: &mut String, plan: &Plan) -> Result<(), OutOfMemory>
-    ensures { OnOk result (string_bytes out.new ≡ string_bytes out.old ++ check_lines plan.now (length plan.now.federates)) }
+    ensures { OnOk result (string_bytes out.new ≡ string_bytes out.old ++ flat_map (check_line plan.now) (range_with_len 0 (length plan.now.federates))) }
 {
     for number in 0..plan.count() {
         write_federate(out, plan, number)?;
@@ -73,7 +68,7 @@ fn write_federates(out: &mut String, plan: &Plan) -> Result<(), OutOfMemory>
 }
 
 fn write_pair(out: &mut String, first: &str, second: &str) -> Result<(), OutOfMemory>
-    ensures { OnOk result (string_bytes out.new ≡ string_bytes out.old ++ pair_line first.now second.now) }
+    ensures { OnOk result (string_bytes out.new ≡ string_bytes out.old ++ line (codes "wait cycle " ++ first.now ++ 32 ∷ second.now)) }
 {
     writeln!(out, "wait cycle {first} {second}")?;
     Ok(())

@@ -2,8 +2,7 @@
 // an interface that its federate hasn't is told by a blank name of its own, as in `A/`.
 ghost use Rattle.std.specs.Prelude.{◌≡◌, ◌++◌, OnOk, string_bytes};
 ghost use Rattle.interface_names.specs.Names.{global_name_of};
-ghost use Rattle.federation_plan.specs.Interfaces.{publication_at, endpoint_at};
-ghost use Rattle.log_text.specs.Text.{federate_name, publication_name, endpoint_name};
+ghost use Rattle.federation_plan.specs.Interfaces.{federate_at, publication_at, publication_interface, endpoint_at, pub_name, end_name};
 
 use hel_lists::OutOfMemory;
 use hel_values::EndRef;
@@ -11,7 +10,7 @@ use interface_names::FederateRecord;
 
 /// The name of the federate of a number.
 pub(crate) fn federate_name(federates: &[FederateRecord], number: usize) -> &str
-    ensures { result.now ≡ federate_name federates.now number }
+    ensures { result.now ≡ (federate_at federates.now number).name }
 {
     match federates.get(number) {
         Some(federate) => federate.name.as_str(),
@@ -25,7 +24,7 @@ pub(crate) fn write_publication(
     federates: &[FederateRecord],
     publication: EndRef,
 ) -> Result<(), OutOfMemory>
-    ensures { OnOk result (string_bytes out.new ≡ string_bytes out.old ++ publication_name federates.now publication) }
+    ensures { OnOk result (string_bytes out.new ≡ string_bytes out.old ++ pub_name (publication_interface federates.now publication)) }
 {
     let owner = federate_name(federates, usize::from(publication.fed));
     let (name, global) = publication_called(federates, publication);
@@ -38,7 +37,7 @@ pub(crate) fn write_endpoint(
     federates: &[FederateRecord],
     endpoint: EndRef,
 ) -> Result<(), OutOfMemory>
-    ensures { OnOk result (string_bytes out.new ≡ string_bytes out.old ++ endpoint_name federates.now endpoint) }
+    ensures { OnOk result (string_bytes out.new ≡ string_bytes out.old ++ end_name (endpoint_at federates.now endpoint)) }
 {
     let owner = federate_name(federates, usize::from(endpoint.fed));
     let (name, global) = endpoint_called(federates, endpoint);
