@@ -1,26 +1,16 @@
 -- Accepted steps are runs of plans, and so are reference runs.
-use Rattle.std.proofs.Common.{◌≡◌, ◌≢◌, ◌⊎◌, ◌≤◌, ℕ, zero, suc, true, List, [], ◌∷◌, length, inl, inr, refl, sym, ap, subst, arith}
+use Rattle.std.proofs.Common.{ℕ, zero, suc, List, [], ◌∷◌, inl, inr, refl, ap}
 use Rattle.std.specs.Prelude.{map}
-use Rattle.std.proofs.lemmas.Bool.{cases_eq, ne_eqb}
-use Rattle.helics_time.specs.Stamp.{At, IsStamp, next_of, rank}
-use Rattle.helics_time.specs.Settings.{Terms, IsTerms}
-use Rattle.helics_time.proofs.Ranks.{next_more, next_is}
-use Rattle.hel_lists.specs.Members.{IsIn, Each}
-use Rattle.hel_lists.proofs.Members.{in_map}
+use Rattle.hel_lists.specs.Members.{Each}
 use Rattle.hel_values.specs.declared.EndRef.{EndRef}
-use Rattle.dependency_paths.specs.Paths.{row_of}
-use Rattle.dependency_paths.specs.Paths.Leads.{by_link}
-use Rattle.dependency_paths.proofs.Ancestry.{ancestor_laws}
-use Rattle.machine_laws.specs.Plan.{Plan as Wires, Call, Leg, legs_of, due_of, IsPlan}
-use Rattle.machine_laws.specs.Plan.Call.{publish, send}
-use Rattle.time_state.specs.Fed.{Fed}
-use Rattle.machine_laws.specs.Machine.{KeepsTime, IsRun, opening, default_terms}
+use Rattle.machine_laws.specs.Plan.{Plan as Wires, IsPlan}
+use Rattle.machine_laws.specs.Machine.{KeepsTime, IsRun, opening}
 use Rattle.machine_laws.specs.Machine.Step.{begin}
 use Rattle.machine_laws.specs.Moves.{Play, Scripts, KeepsTimes as KeepTimesAll, Moves, IsReference, opening_play, step_by}
 use Rattle.machine_laws.proofs.Keep.{runs_keep}
 use Rattle.machine_laws.proofs.Moves.{moves_run}
 use Rattle.one_place.specs.declared.step.MachineStep.{MachineStep}
-use Rattle.federation_plan.specs.Plan.{Federation, IsFederation}
+use Rattle.federation_plan.specs.Plan.{Federation}
 use Rattle.federation_plan.specs.Wires.{wires_of}
 use Rattle.federation_plan.proofs.Wired.{plans_are}
 use Rattle.one_place.specs.Step.{step_of}

@@ -1,5 +1,5 @@
 -- Where runs in other orders end.
-use Rattle.std.proofs.Common.{◌≡◌, ℕ, inl, inr, refl, sym, subst, List, [], ◌∷◌, length, Option, Some, None}
+use Rattle.std.proofs.Common.{◌≡◌, ℕ, refl, sym, subst, List, [], ◌∷◌, length, Option, None}
 use Rattle.std.specs.Prelude.{replicate}
 use Rattle.hel_lists.specs.Members.{Each}
 use Rattle.fed_script.specs.Script.{Course, IsCourse}
@@ -17,15 +17,14 @@ use Rattle.federation_plan.specs.Plan.{Federation, IsFederation}
 use Rattle.federation_plan.specs.Wires.{wires_of}
 use Rattle.one_place.specs.Laws.{OrdersAgree, FailureRuns}
 use Rattle.one_place.specs.Reference.{plays_of, HasReferenceLogs}
-use Rattle.one_place.specs.Orders.{IsOrdered, HasOrderedLogs, HasLogsUpToFailure}
-use Rattle.one_place.specs.Playing.{InOrder, UpTo}
-use Rattle.one_place.specs.Run.{play_of, begun_stage}
+use Rattle.one_place.specs.Orders.{IsOrdered, HasOrderedLogs, HasLogsUpToFailure, IsUpTo}
+use Rattle.one_place.specs.Run.{play_of, begun_stage, Played}
 use Rattle.federation_plan.proofs.Wired.{plans_are}
 use Rattle.one_place.proofs.Accepting.{times_of}
 use Rattle.one_place.proofs.Starting.{begun_calls}
 
 -- a run in an order is a run of moves that goes on until none may move
-ordered_moves : (p : Plan) (scripts : Scripts) (w end : Play) (order fs : List ℕ) → IsOrdered p scripts w order fs end → Moves p scripts w fs end × IsStill p scripts end
+ordered_moves : (p : Plan) (scripts : Scripts) (w end : Play) (order fs : List ℕ) → IsOrdered order p scripts w fs end → Moves p scripts w fs end × IsStill p scripts end
 ordered_moves p scripts w end order [] run = (run.0, subst (λ (v : Play). IsStill p scripts v) (sym run.0) run.1)
 ordered_moves p scripts w end order (f ∷ fs) run =
     let rest = ordered_moves p scripts run.0 end _ fs run.3 in
@@ -74,15 +73,15 @@ opened : (p : Federation) → play_of (begun_stage p) (replicate (length p.feder
 opened p = λ i. record { state = (begun_stage p).state; calls = sym (begun_calls p) i }
 
 pub ordered_logs : (p : Federation) (scripts : List Course) (order : List ℕ) (end : State) (last : List ℕ) (logs : List FedLog) →
-    InOrder order (wires_of p) (plays_of p scripts) (play_of (begun_stage p) (replicate (length p.federates) 0)) (record { state = end; calls = last }) → logs ≡ logs_of end →
+    Played (IsOrdered order) (wires_of p) (plays_of p scripts) (play_of (begun_stage p) (replicate (length p.federates) 0)) (record { state = end; calls = last }) → logs ≡ logs_of end →
     HasOrderedLogs p scripts order logs
 ordered_logs p scripts order end last logs out are =
-    let run = subst (λ (w : Play). InOrder order (wires_of p) (plays_of p scripts) w (record { state = end; calls = last })) (opened p) out in
+    let run = subst (λ (w : Play). Played (IsOrdered order) (wires_of p) (plays_of p scripts) w (record { state = end; calls = last })) (opened p) out in
     record { feds = run.0; end = record { state = end; calls = last }; run = run.1; logs_are = are }
 
 pub failure_logs : (p : Federation) (scripts : List Course) (failed : Option ℕ) (end : State) (last : List ℕ) (logs : List FedLog) →
-    UpTo failed (wires_of p) (plays_of p scripts) (play_of (begun_stage p) (replicate (length p.federates) 0)) (record { state = end; calls = last }) → logs ≡ logs_of end →
+    Played (IsUpTo failed) (wires_of p) (plays_of p scripts) (play_of (begun_stage p) (replicate (length p.federates) 0)) (record { state = end; calls = last }) → logs ≡ logs_of end →
     HasLogsUpToFailure p scripts failed logs
 failure_logs p scripts failed end last logs out are =
-    let run = subst (λ (w : Play). UpTo failed (wires_of p) (plays_of p scripts) w (record { state = end; calls = last })) (opened p) out in
+    let run = subst (λ (w : Play). Played (IsUpTo failed) (wires_of p) (plays_of p scripts) w (record { state = end; calls = last })) (opened p) out in
     record { feds = run.0; end = record { state = end; calls = last }; run = run.1; logs_are = are }

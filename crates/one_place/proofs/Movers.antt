@@ -1,50 +1,47 @@
 -- The federates that may move, one after another.
 use Rattle.std.proofs.Common.{◌≡◌, ◌+◌, ◌-◌, ◌<◌, ◌≤◌, ℕ, zero, suc, Bool, true, false, List, [], ◌∷◌, length, slice_get, Option, Some, None, refl, sym, ◌∙◌, ap, arith}
-use Rattle.std.specs.Prelude.{if◌then◌else◌}
-use Rattle.one_place.specs.Orders.{passing}
+use Rattle.std.specs.Prelude.{cond}
+use Rattle.std.specs.List.{filter, range_with_len}
 
-one_more : (f n : ℕ) → f < n → n - f ≡ suc (n - suc f)
+-- the numbers from f on, so many, that pass a test
+abbrev pub passing : (ℕ → Bool) → ℕ → ℕ → List ℕ
+passing test f n = filter test (range_with_len f n)
+
+one_more : (f n : ℕ) → f < n → n - f ≡ suc (n - (f + 1))
 one_more f n less = omega (arith, less)
 
 -- the first of them passes
-pub passing_first : (test : ℕ → Bool) (f n : ℕ) → f < n → test f ≡ true → passing test f (n - f) ≡ f ∷ passing test (suc f) (n - suc f)
-unfolding passing
-passing_first test f n less is = ap (passing test f) (one_more f n less) ∙ ap (λ (b : Bool). if b then f ∷ passing test (suc f) (n - suc f) else passing test (suc f) (n - suc f)) is
+pub passing_first : (test : ℕ → Bool) (f n : ℕ) → f < n → test f ≡ true → passing test f (n - f) ≡ f ∷ passing test (f + 1) (n - (f + 1))
+passing_first test f n less is = ap (passing test f) (one_more f n less) ∙ ap (λ (b : Bool). cond b (f ∷ passing test (f + 1) (n - (f + 1))) (passing test (f + 1) (n - (f + 1)))) is
 
 -- or it doesn't
-pub passing_over : (test : ℕ → Bool) (f n : ℕ) → f < n → test f ≡ false → passing test f (n - f) ≡ passing test (suc f) (n - suc f)
-unfolding passing
-passing_over test f n less is = ap (passing test f) (one_more f n less) ∙ ap (λ (b : Bool). if b then f ∷ passing test (suc f) (n - suc f) else passing test (suc f) (n - suc f)) is
+pub passing_over : (test : ℕ → Bool) (f n : ℕ) → f < n → test f ≡ false → passing test f (n - f) ≡ passing test (f + 1) (n - (f + 1))
+passing_over test f n less is = ap (passing test f) (one_more f n less) ∙ ap (λ (b : Bool). cond b (f ∷ passing test (f + 1) (n - (f + 1))) (passing test (f + 1) (n - (f + 1)))) is
 
 -- behind the last there is none
 pub passing_end : (test : ℕ → Bool) (n : ℕ) → passing test n (n - n) ≡ []
-unfolding passing
 passing_end test n = let none : n - n ≡ 0 = omega arith in ap (passing test n) none
 
 -- they are no more than the numbers
 pub passing_few : (test : ℕ → Bool) (f n : ℕ) → length (passing test f n) ≤ n
-unfolding passing
 passing_few test f zero = omega arith
-passing_few test f (suc n) = by_test (test f) (passing_few test (suc f) n)
+passing_few test f (suc n) = by_test (test f) (passing_few test (f + 1) n)
   where
-    by_test : (b : Bool) → length (passing test (suc f) n) ≤ n → length (if b then f ∷ passing test (suc f) n else passing test (suc f) n) ≤ suc n
+    by_test : (b : Bool) → length (passing test (f + 1) n) ≤ n → length (cond b (f ∷ passing test (f + 1) n) (passing test (f + 1) n)) ≤ suc n
     by_test true more = omega (arith, more)
     by_test false more = omega (arith, more)
-
-next_number : (test : ℕ → Bool) (f n : ℕ) → passing test (suc f) (n - suc f) ≡ passing test (f + 1) (n - (f + 1))
-next_number test f n = let one : suc f ≡ f + 1 = omega arith in ap (λ k. passing test k (n - k)) one
 
 -- counted one after another
 pub counted_first : (test : ℕ → Bool) (f n count total : ℕ) → f < n → test f ≡ true → count + length (passing test f (n - f)) ≡ total →
     (count + 1) + length (passing test (f + 1) (n - (f + 1))) ≡ total
 counted_first test f n count total less is counted =
-    let first = ap (λ (l : List ℕ). length l) (passing_first test f n less is ∙ ap (λ (l : List ℕ). f ∷ l) (next_number test f n)) in
+    let first = ap (λ (l : List ℕ). length l) (passing_first test f n less is) in
     omega (arith, first, counted)
 
 pub counted_over : (test : ℕ → Bool) (f n count total : ℕ) → f < n → test f ≡ false → count + length (passing test f (n - f)) ≡ total →
     count + length (passing test (f + 1) (n - (f + 1))) ≡ total
 counted_over test f n count total less is counted =
-    let first = ap (λ (l : List ℕ). length l) (passing_over test f n less is ∙ next_number test f n) in
+    let first = ap (λ (l : List ℕ). length l) (passing_over test f n less is) in
     omega (arith, first, counted)
 
 pub counted_all : (test : ℕ → Bool) (f n count total : ℕ) → f ≤ n → n ≤ f → count + length (passing test f (n - f)) ≡ total → count ≡ total
@@ -60,11 +57,11 @@ passed_first test f n zero found less is some at = absurd (some refl)
 passed_first test f n (suc left) found less is some at =
     let one : suc left - 1 ≡ left = omega arith in
     ap (slice_get (passing test (f + 1) (n - (f + 1)))) one
-    ∙ sym (ap (λ (l : List ℕ). slice_get l (suc left)) (passing_first test f n less is ∙ ap (λ (l : List ℕ). f ∷ l) (next_number test f n))) ∙ at
+    ∙ sym (ap (λ (l : List ℕ). slice_get l (suc left)) (passing_first test f n less is)) ∙ at
 
 pub passed_over : (test : ℕ → Bool) (f n left : ℕ) (found : Option ℕ) → f < n → test f ≡ false → slice_get (passing test f (n - f)) left ≡ found →
     slice_get (passing test (f + 1) (n - (f + 1))) left ≡ found
-passed_over test f n left found less is at = sym (ap (λ (l : List ℕ). slice_get l left) (passing_over test f n less is ∙ next_number test f n)) ∙ at
+passed_over test f n left found less is at = sym (ap (λ (l : List ℕ). slice_get l left) (passing_over test f n less is)) ∙ at
 
 pub found_here : (test : ℕ → Bool) (f n left : ℕ) (found : Option ℕ) → f < n → test f ≡ true → left ≡ 0 → slice_get (passing test f (n - f)) left ≡ found → Some f ≡ found
 found_here test f n left found less is here at =

@@ -1,6 +1,6 @@
 -- Calls of scripts, and who may act.
-use Rattle.std.proofs.Common.{◌≡◌, ◌<◌, ◌≤◌, ◌+◌, ℕ, zero, sym, true, false, List, [], ◌∷◌, length, Option, Some, None, refl, ap, ◌∙◌, arith, inl, inr, subst}
-use Rattle.std.specs.Prelude.{nat_lt, if◌then◌else◌, option_map, is_some, unwrap_or, slice_get, drop, Result, Ok, Err}
+use Rattle.std.proofs.Common.{◌≡◌, ◌<◌, ◌≤◌, ◌+◌, ℕ, zero, sym, Bool, true, false, List, [], ◌∷◌, length, Option, Some, None, refl, ap, ◌∙◌, arith, inl, inr, subst}
+use Rattle.std.specs.Prelude.{nat_lt, if◌then◌else◌, ◌||◌, option_map, is_some, is_none, unwrap_or, slice_get, drop, Result, Ok, Err}
 use Rattle.std.specs.Result.{IfOk}
 use Rattle.std.proofs.lemmas.Bool.{cases_Bool, cases_lt, false≢true, true≢false}
 use Rattle.std.proofs.lemmas.Bool.Decides.{nat_tests}
@@ -23,15 +23,15 @@ use Rattle.machine_laws.specs.declared.refusal.Unlawful.TheVariants.{Refused, St
 use Rattle.machine_laws.specs.declared.refusal.Unlawful.{Unlawful}
 use Rattle.machine_laws.specs.Plan.{Plan}
 use Rattle.machine_laws.specs.Refusal.{refusal_word}
-use Rattle.machine_laws.specs.Machine.{State, blank_member, member_at, end_refusal, refusal_of}
-use Rattle.machine_laws.specs.Machine.Step.{fail}
+use Rattle.machine_laws.specs.Machine.{State, blank_member, member_at, end_refusal, grant_refusal, refusal_of}
+use Rattle.machine_laws.specs.Machine.Step.{fail, grant}
 use Rattle.machine_laws.specs.Moves.{Doing, step_by, doing_refusal}
 use Rattle.machine_laws.specs.Moves.Doing.{enters, makes, requests, finishes, fails}
 use Rattle.time_state.specs.declared.Phase.{Phase}
 use Rattle.time_state.specs.declared.Phase.TheVariants.{Created, Initializing, Entering, Running, Waiting, Ended as PhaseEnded}
 use Rattle.one_place.specs.Reference.{doing_of, call_of}
 use Rattle.one_place.specs.Machine.{Stage}
-use Rattle.one_place.specs.Run.{may_move, is_calling}
+use Rattle.one_place.specs.Run.{wires_at, may_move, is_calling}
 
 -- the name of a refusal is short enough for a text value
 pub word_is_short : (r : CallRefusal) → length (refusal_word r) ≤ data_limit
@@ -48,7 +48,11 @@ word_is_short OutOfMemory = omega arith
 
 -- a number that no federate has doesn't act
 pub strange_stays : (s : Stage) (f : ℕ) → length s.state.members ≤ f → may_move s f ≡ false
-strange_stays s f over = rw (get_or_past s.state.members f blank_member over) refl
+strange_stays s f over =
+    let calls : is_calling (member_at s.state f).time.phase ≡ false = rw (get_or_past s.state.members f blank_member over) refl in
+    let none : nat_lt f (length s.state.members) ≡ false = grind (arith, nat_tests) in
+    let refused : refusal_of (wires_at s) s.state (grant f) ≡ Some StrangeNumber = ap (λ (known : Bool). if known then grant_refusal (wires_at s) s.state f else Some StrangeNumber) none in
+    (λ i. calls i || is_none (refused i))
 
 -- a federate that calls is one of the machine's
 pub calling_known : (s : State) (f : ℕ) → is_calling (member_at s f).time.phase ≡ true → f < length s.members

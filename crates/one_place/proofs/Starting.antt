@@ -7,14 +7,14 @@ use Rattle.helics_time.specs.Settings.{Terms}
 use Rattle.fed_script.specs.Script.{Course, IsCourse}
 use Rattle.machine_laws.specs.declared.logs.FedLog.{FedLog}
 use Rattle.machine_laws.specs.Machine.{State, Member, begun_member, new_member, blank_member, logs_of}
-use Rattle.machine_laws.specs.Moves.{Play, opening_play}
+use Rattle.machine_laws.specs.Moves.{Play, opening_play, IsReference}
 use Rattle.one_place.specs.declared.actor.Actor.{Actor}
 use Rattle.interface_names.specs.declared.records.FederateRecord.{FederateRecord}
 use Rattle.federation_plan.specs.Interfaces.{federate_at}
 use Rattle.federation_plan.specs.Plan.{Federation}
 use Rattle.federation_plan.specs.Wires.{wires_of}
 use Rattle.one_place.specs.Reference.{names_in, course_at, first_sight, plays_of, HasReferenceLogs}
-use Rattle.one_place.specs.Run.{play_of, IsActor, AreActors, Goes, AreFollowing, actor_at, first_actors, PlaysOut, begun_stage}
+use Rattle.one_place.specs.Run.{play_of, IsActor, AreActors, Goes, AreFollowing, actor_at, first_actors, begun_stage, Played}
 
 -- one actor for each federate
 actors_count : (feds : List FederateRecord) (scripts : List Course) → length scripts ≡ length feds → length (first_actors feds scripts) ≡ length feds
@@ -100,9 +100,9 @@ first_follow p scripts each =
 
 -- what is played out to its end is the reference run
 pub reference_logs : (p : Federation) (scripts : List Course) (end : State) (last : List ℕ) (logs : List FedLog) →
-    PlaysOut (wires_of p) (plays_of p scripts) (play_of (begun_stage p) (replicate (length p.federates) 0)) (record { state = end; calls = last }) → logs ≡ logs_of end →
+    Played IsReference (wires_of p) (plays_of p scripts) (play_of (begun_stage p) (replicate (length p.federates) 0)) (record { state = end; calls = last }) → logs ≡ logs_of end →
     HasReferenceLogs p scripts logs
 reference_logs p scripts end last logs out are =
     let opening : play_of (begun_stage p) (replicate (length p.federates) 0) ≡ opening_play (wires_of p) = λ i. record { state = (begun_stage p).state; calls = sym (begun_calls p) i } in
-    let run = subst (λ (w : Play). PlaysOut (wires_of p) (plays_of p scripts) w (record { state = end; calls = last })) opening out in
+    let run = subst (λ (w : Play). Played IsReference (wires_of p) (plays_of p scripts) w (record { state = end; calls = last })) opening out in
     record { feds = run.0; end = record { state = end; calls = last }; run = run.1; logs_are = are }

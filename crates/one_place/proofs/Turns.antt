@@ -1,6 +1,6 @@
 -- Turns of the reference run as moves of scripted federates.
 use Rattle.std.proofs.Common.{◌≡◌, ◌⊎◌, ◌<◌, ◌≤◌, ◌+◌, ℕ, zero, suc, Bool, true, false, List, [], ◌∷◌, ◌++◌, length, Option, Some, None, inl, inr, refl, sym, ◌∙◌, ap, subst, arith, append_assoc, length-set}
-use Rattle.std.specs.Prelude.{slice_index_or, slice_set, option_map, is_none, if◌then◌else◌}
+use Rattle.std.specs.Prelude.{slice_index_or, slice_set, option_map, is_none, ◌||◌, nat_lt, if◌then◌else◌}
 use Rattle.std.proofs.lemmas.Bool.{cases_eq, cases_lt, false≢true, true≢false}
 use Rattle.std.proofs.lemmas.List.{append-nil, get_or-set_same, get_or-set_other, set-get_or}
 use Rattle.hel_lists.specs.Members.{Each}
@@ -12,17 +12,18 @@ use Rattle.fed_script.specs.View.{Sight}
 use Rattle.machine_laws.specs.declared.logs.LogEntry.{LogEntry}
 use Rattle.machine_laws.specs.declared.refusal.CallRefusal.{CallRefusal}
 use Rattle.machine_laws.specs.declared.refusal.Unlawful.{Unlawful}
+use Rattle.machine_laws.specs.declared.refusal.Unlawful.TheVariants.{NotAsked, StrangeNumber}
 use Rattle.machine_laws.specs.Plan.{Plan}
-use Rattle.machine_laws.specs.Machine.{State, Member, Step, blank_member, member_at, dues_to, handed_in, granted_member, refusal_of, after}
+use Rattle.machine_laws.specs.Machine.{State, Member, Step, blank_member, member_at, cut_in, holder_in, dues_to, handed_in, granted_member, refusal_of, after}
 use Rattle.machine_laws.specs.Machine.Step.{grant}
-use Rattle.machine_laws.specs.Moves.{Doing, Scripts, Play, step_by, or_failure, doing_refusal, call_by, calls_of, in_turn, if_lawful, is_call, moved, move}
+use Rattle.machine_laws.specs.Moves.{Doing, Scripts, Play, step_by, or_failure, doing_refusal, call_by, calls_of, in_turn, if_lawful, is_call, moved, move, IsReference}
 use Rattle.machine_laws.specs.Moves.Doing.{enters, makes, requests, finishes, fails}
 use Rattle.one_place.specs.declared.actor.Actor.{Actor}
 use Rattle.federation_plan.specs.Plan.{Federation}
 use Rattle.federation_plan.specs.Wires.{wires_of}
 use Rattle.one_place.specs.Machine.{Stage}
-use Rattle.one_place.specs.Reference.{names_in, taken_over}
-use Rattle.one_place.specs.Run.{wires_at, names_at, play_of, may_move, is_calling, going, passed, calling_step, entry_in, step_at, actor_after, IsActor, AreActors, Goes, actor_at, AreFollowing, IsNextToMove, PlaysOut, GoesOn}
+use Rattle.one_place.specs.Reference.{Way, names_in, taken_over}
+use Rattle.one_place.specs.Run.{wires_at, names_at, play_of, may_move, is_calling, going, passed, calling_step, entry_in, step_at, actor_after, IsActor, AreActors, Goes, actor_at, AreFollowing, IsNextToMove, Played, Leads}
 use Rattle.one_place.specs.Work.{weight, work, letters, is_answering}
 use Rattle.one_place.proofs.Held.{each_at}
 use Rattle.one_place.proofs.Scripts.{calling_known, strange_stays, initial_passed, words_passed}
@@ -126,6 +127,13 @@ stays s plays cs f not = by_phase (member_at s.state f).time.phase refl
     p : Plan
     p = wires_at s
 
+    ungranted : (calls grants : Bool) → (calls || grants) ≡ false → grants ≡ false
+    ungranted true grants none = absurd (true≢false none)
+    ungranted false grants none = none
+
+    some : is_none (refusal_of p s.state (grant f)) ≡ false
+    some = ungranted (is_calling (member_at s.state f).time.phase) _ not
+
     refused : (r : Option Unlawful) (step : Step) → is_none r ≡ false → if_lawful r step ≡ None
     refused None step some = absurd (true≢false some)
     refused (Some e) step some = refl
@@ -141,8 +149,8 @@ stays s plays cs f not = by_phase (member_at s.state f).time.phase refl
     by_phase (Ended cause) is = idle (Ended cause) is refl
     by_phase Initializing is = let moves = rw is at not in absurd (true≢false moves)
     by_phase Running is = let moves = rw is at not in absurd (true≢false moves)
-    by_phase Entering is = let some = rw is at not in idle Entering is (refused _ _ some)
-    by_phase Waiting is = let some = rw is at not in idle Waiting is (refused _ _ some)
+    by_phase Entering is = idle Entering is (refused _ _ some)
+    by_phase Waiting is = idle Waiting is (refused _ _ some)
 
 none_of : (r : Option Unlawful) → is_none r ≡ true → r ≡ None
 none_of None none = refl
@@ -161,15 +169,20 @@ pub record MayTurn (s : Stage) (f : ℕ) : Type 0 where
   pub lawful : refusal_of (wires_at s) s.state (grant f) ≡ None
 
 pub calls_or_asks : (s : Stage) (f : ℕ) → may_move s f ≡ true → (is_calling (member_at s.state f).time.phase ≡ true) ⊎ MayTurn s f
-calls_or_asks s f may = by_phase (member_at s.state f).time.phase refl
+calls_or_asks s f may = either (is_calling (member_at s.state f).time.phase) (is_none (refusal_of (wires_at s) s.state (grant f))) refl refl may
   where
-    by_phase : (q : Phase) → (member_at s.state f).time.phase ≡ q → (is_calling (member_at s.state f).time.phase ≡ true) ⊎ MayTurn s f
-    by_phase Initializing is = inl (rw is refl)
-    by_phase Running is = inl (rw is refl)
-    by_phase Entering is = let passes = rw is at may in inr (record { asks = rw is refl; lawful = none_of _ passes })
-    by_phase Waiting is = let passes = rw is at may in inr (record { asks = rw is refl; lawful = none_of _ passes })
-    by_phase Created is = let no = rw is at may in absurd (false≢true no)
-    by_phase (Ended cause) is = let no = rw is at may in absurd (false≢true no)
+    asking : (known asks : Bool) (held : Option Unlawful) → (if known then (if asks then held else Some NotAsked) else Some StrangeNumber) ≡ None → asks ≡ true
+    asking true true held none = refl
+    asking true false held none = cc
+    asking false asks held none = cc
+
+    either : (calls grants : Bool) → is_calling (member_at s.state f).time.phase ≡ calls → is_none (refusal_of (wires_at s) s.state (grant f)) ≡ grants → (calls || grants) ≡ true →
+        (is_calling (member_at s.state f).time.phase ≡ true) ⊎ MayTurn s f
+    either true grants calls lawful holds = inl calls
+    either false true calls lawful holds =
+        let none : refusal_of (wires_at s) s.state (grant f) ≡ None = none_of _ lawful in
+        inr (record { asks = asking (nat_lt f (length s.state.members)) (is_asking (member_at s.state f).time.phase) (holder_in (wires_at s) s.state (cut_in s.state f) ((wires_at s).ancestors f)) none; lawful = none })
+    either false false calls lawful holds = absurd (false≢true holds)
 
 -- an actor keeps its facts as it goes on
 passed_actor : (q : Phase) (a : Actor) → IsActor a → IsActor (passed q a)
@@ -350,20 +363,33 @@ turned s t f actors rest ready may is left = elim (calls_or_asks s f may) [
 
 -- a move of the next to move, and then the rest
 pub first_move : (s t : Stage) (plays : Scripts) (calls next : List ℕ) (f : ℕ) (end : Play) → IsNextToMove s f → move (wires_at s) plays f (play_of s calls) ≡ Some (play_of t next) →
-    t.plan ≡ s.plan → PlaysOut (wires_at t) plays (play_of t next) end → PlaysOut (wires_at s) plays (play_of s calls) end
+    t.plan ≡ s.plan → Played IsReference (wires_at t) plays (play_of t next) end → Played IsReference (wires_at s) plays (play_of s calls) end
 first_move s t plays cs ds f end next moves same rest =
-    let more : PlaysOut (wires_at s) plays (play_of t ds) end = subst (λ (plan : Federation). PlaysOut (wires_of plan) plays (play_of t ds) end) same rest in
+    let more : Played IsReference (wires_at s) plays (play_of t ds) end = subst (λ (plan : Federation). Played IsReference (wires_of plan) plays (play_of t ds) end) same rest in
     (f ∷ more.0, (play_of t ds, moves, (λ g less. stays s plays cs g (next.least g less)), more.1))
 
 -- nobody moves any more
-pub no_move : (s : Stage) (plays : Scripts) (calls : List ℕ) → ((f : ℕ) → may_move s f ≡ false) → PlaysOut (wires_at s) plays (play_of s calls) (play_of s calls)
+pub no_move : (s : Stage) (plays : Scripts) (calls : List ℕ) → ((f : ℕ) → may_move s f ≡ false) → Played IsReference (wires_at s) plays (play_of s calls) (play_of s calls)
 no_move s plays cs none = ([], (refl, λ f. stays s plays cs f (none f)))
 
--- the reference run goes on by turns of the next to move
-pub stays_there : (s : Stage) (actors : List Actor) → AreActors s.state actors → GoesOn s actors s actors
-stays_there s actors ready = record { plan = refl; ready = ready; more = λ plays cs follows. (cs, follows, (λ end out. out)) }
+-- ---- how runs go on
 
-pub goes_further : (s t u : Stage) (f : ℕ) (actors there rest : List Actor) → GoesOn s actors t there → IsNextToMove t f → u.plan ≡ t.plan → IsTurned t f there u rest → GoesOn s actors u rest
+pub leads_there : (way : Way) (s : Stage) (actors : List Actor) → AreActors s.state actors → Leads way way s actors s actors
+leads_there way s actors ready = record { plan = refl; ready = ready; more = λ plays cs follows. (cs, follows, (λ end out. out)) }
+
+pub leads_through : (a b c : Way) (s t u : Stage) (actors there rest : List Actor) → Leads a b s actors t there → Leads b c t there u rest → Leads a c s actors u rest
+leads_through a b c s t u actors there rest first then_on =
+    record {
+      plan = then_on.plan ∙ first.plan;
+      ready = then_on.ready;
+      more = λ plays cs follows.
+          (let now = first.more plays cs follows in
+          let later = then_on.more plays now.0 now.1 in
+          (later.0, later.1, (λ end out. now.2 end (later.2 end out))));
+    }
+
+-- the reference run by turns of the next to move
+pub goes_further : (s t u : Stage) (f : ℕ) (actors there rest : List Actor) → Leads IsReference IsReference s actors t there → IsNextToMove t f → u.plan ≡ t.plan → IsTurned t f there u rest → Leads IsReference IsReference s actors u rest
 goes_further s t u f actors there rest on next plan turn =
     record {
       plan = plan ∙ on.plan;
@@ -372,15 +398,4 @@ goes_further s t u f actors there rest on next plan turn =
           (let now = on.more plays cs follows in
           let moved = turn.moves plays now.0 now.1 in
           (moved.0, moved.2, (λ end out. now.2 end (first_move t u plays now.0 moved.0 f end next moved.1 plan out))));
-    }
-
-pub goes_through : (s t u : Stage) (actors there rest : List Actor) → GoesOn s actors t there → GoesOn t there u rest → GoesOn s actors u rest
-goes_through s t u actors there rest on then_on =
-    record {
-      plan = then_on.plan ∙ on.plan;
-      ready = then_on.ready;
-      more = λ plays cs follows.
-          (let now = on.more plays cs follows in
-          let later = then_on.more plays now.0 now.1 in
-          (later.0, later.1, (λ end out. now.2 end (later.2 end out))));
     }

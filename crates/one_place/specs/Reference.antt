@@ -14,6 +14,7 @@ use Rattle.federation_plan.specs.Plan.{Federation}
 use Rattle.federation_plan.specs.Wires.{endpoint_in, wires_of}
 use Rattle.machine_laws.specs.declared.logs.FedLog.{FedLog}
 use Rattle.machine_laws.specs.declared.logs.LogEntry.{LogEntry}
+use Rattle.machine_laws.specs.Plan.{Plan}
 use Rattle.machine_laws.specs.Plan.Call.{publish, send}
 use Rattle.machine_laws.specs.Machine.{logs_of}
 use Rattle.machine_laws.specs.Moves.{Doing, Scripts, Play, opening_play, IsReference}
@@ -80,11 +81,17 @@ abbrev pub plays_of : Federation → List Course → Scripts
 plays_of plan scripts f calls log =
     call_of (names_in plan) (course_at scripts f).initial (course_at scripts f).words (first_sight (federate_at plan.federates f)) log calls
 
--- the logs of the reference run of these scripts: the machine begins, and then the least federate that may move moves,
--- until none may
-pub record HasReferenceLogs (plan : Federation) (scripts : List Course) (logs : List FedLog) : Type 0 where
-  -- the federates that move, in order
+-- how federates take turns from one play to another, by their numbers in order
+abbrev pub Way : Type 1
+Way = Plan → Scripts → Play → List ℕ → Play → Type 0
+
+-- the logs of these scripts: the machine begins, and then federates take turns in such a way
+pub record HasLogs (way : Way) (plan : Federation) (scripts : List Course) (logs : List FedLog) : Type 0 where
   pub feds : List ℕ
   pub end : Play
-  pub run : IsReference (wires_of plan) (plays_of plan scripts) (opening_play (wires_of plan)) feds end
+  pub run : way (wires_of plan) (plays_of plan scripts) (opening_play (wires_of plan)) feds end
   pub logs_are : logs ≡ logs_of end.state
+
+-- those of the reference run: the least federate that may move moves, until none may
+abbrev pub HasReferenceLogs : Federation → List Course → List FedLog → Type 0
+HasReferenceLogs plan scripts logs = HasLogs IsReference plan scripts logs

@@ -1,5 +1,5 @@
 -- The reference run as the code makes it: a machine, and for each federate what is left of its script and what it sees.
-use Rattle.std.specs.Prelude.{ℕ, zero, ◌+◌, ◌<◌, ◌≡◌, Bool, true, false, is_none, List, [], ◌∷◌, ◌++◌, length, drop, slice_index_or, if◌then◌else◌}
+use Rattle.std.specs.Prelude.{ℕ, zero, ◌+◌, ◌<◌, ◌≡◌, Bool, true, false, ◌||◌, is_none, List, [], ◌∷◌, ◌++◌, length, drop, slice_index_or, if◌then◌else◌}
 use Rattle.hel_lists.specs.Members.{Each}
 use Rattle.hel_values.specs.declared.EndRef.{EndRef}
 use Rattle.interface_names.specs.declared.records.FederateRecord.{FederateRecord}
@@ -14,10 +14,10 @@ use Rattle.machine_laws.specs.declared.logs.LogEntry.{LogEntry}
 use Rattle.machine_laws.specs.Plan.{Plan}
 use Rattle.machine_laws.specs.Machine.{Member, State, Step, member_at, dues_to, handed_in, refusal_of}
 use Rattle.machine_laws.specs.Machine.Step.{grant}
-use Rattle.machine_laws.specs.Moves.{Doing, Scripts, Play, call_by, IsReference, opening_play}
+use Rattle.machine_laws.specs.Moves.{Doing, Scripts, Play, call_by, opening_play}
 use Rattle.one_place.specs.declared.actor.Actor.{Actor}
 use Rattle.one_place.specs.Machine.{Stage}
-use Rattle.one_place.specs.Reference.{names_in, acts, call_of, read_on, taken_over, first_sight}
+use Rattle.one_place.specs.Reference.{Way, names_in, acts, call_of, read_on, taken_over, first_sight}
 
 abbrev pub wires_at : Stage → Plan
 wires_at s = wires_of s.plan
@@ -34,19 +34,9 @@ is_calling Initializing = true
 is_calling Running = true
 is_calling phase = false
 
--- a federate may act: by a call, or by the grant that it waits for
+-- a federate may act: it calls, or its grant is lawful
 abbrev pub may_move : Stage → ℕ → Bool
-may_move s f = in_phase (member_at s.state f).time.phase
-  where
-    grants : Bool
-    grants = is_none (refusal_of (wires_at s) s.state (grant f))
-
-    in_phase : Phase → Bool
-    in_phase Initializing = true
-    in_phase Running = true
-    in_phase Entering = grants
-    in_phase Waiting = grants
-    in_phase phase = false
+may_move s f = is_calling (member_at s.state f).time.phase || is_none (refusal_of (wires_at s) s.state (grant f))
 
 -- it may act, and no lesser federate may
 pub record IsNextToMove (s : Stage) (f : ℕ) : Type 0 where
@@ -107,17 +97,17 @@ first_actors [] scripts = []
 first_actors (fed ∷ feds) [] = []
 first_actors (fed ∷ feds) (script ∷ scripts) = (record { script = script; view = first_sight fed }) ∷ first_actors feds scripts
 
--- from here the reference run ends so
-abbrev pub PlaysOut : Plan → Scripts → Play → Play → Type 0
-PlaysOut p plays w end = (feds : List ℕ) × IsReference p plays w feds end
+-- a run in such a way, whoever moves
+abbrev pub Played : Way → Plan → Scripts → Play → Play → Type 0
+Played way p plays w end = (feds : List ℕ) × way p plays w feds end
 
--- from the one stage the reference run goes on to the other: what ends well from there ends well from here
-pub record GoesOn (s : Stage) (actors : List Actor) (t : Stage) (rest : List Actor) : Type 0 where
+-- from the one stage such a run goes on to the other: what ends well from there ends well from here
+pub record Leads (from to : Way) (s : Stage) (actors : List Actor) (t : Stage) (rest : List Actor) : Type 0 where
   pub plan : t.plan ≡ s.plan
   pub ready : AreActors t.state rest
   pub more : (plays : Scripts) (calls : List ℕ) → AreFollowing plays s calls actors →
       (now : List ℕ) × AreFollowing plays t now rest
-      × ((end : Play) → PlaysOut (wires_at t) plays (play_of t now) end → PlaysOut (wires_at s) plays (play_of s calls) end)
+      × ((end : Play) → Played to (wires_at t) plays (play_of t now) end → Played from (wires_at s) plays (play_of s calls) end)
 
 -- the machine of a plan once it has begun
 abbrev pub begun_stage : Federation → Stage

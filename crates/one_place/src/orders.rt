@@ -4,10 +4,10 @@ ghost use Rattle.hel_lists.specs.Members.{Each};
 ghost use Rattle.machine_laws.specs.Moves.{Scripts, is_failed};
 ghost use Rattle.interface_names.specs.Limits.{most_federates};
 ghost use Rattle.one_place.specs.Reference.{HasReferenceLogs};
-ghost use Rattle.one_place.specs.Run.{wires_at, play_of, may_move, AreActors, AreFollowing};
+ghost use Rattle.one_place.specs.Run.{wires_at, play_of, may_move, AreActors, AreFollowing, Played, Leads};
 ghost use Rattle.one_place.specs.Work.{HasLess};
-ghost use Rattle.one_place.specs.Orders.{pick, first_number, HasOrderedLogs, HasLogsUpToFailure};
-ghost use Rattle.one_place.specs.Playing.{movers_at, InOrder, UpTo, Leads, HasCome};
+ghost use Rattle.one_place.specs.Orders.{pick, first_number, HasOrderedLogs, HasLogsUpToFailure, IsOrdered, IsUpTo};
+ghost use Rattle.one_place.specs.Playing.{movers_at, HasCome};
 
 use crate::actor::{Actor, actors_of};
 use crate::run::{begun_machine, may_move, next_to_move, no_hints, turn};
@@ -123,7 +123,7 @@ fn order_on<'a>(
 ) -> Result<(bool, &'a [u32]), OutOfMemory>
     requires few { length machine.old.state.members ≤ most_federates }
     requires actors { AreActors machine.old.state actors.old }
-    ensures on { IfOk result (λ r. Leads (InOrder order.now) (InOrder r.1.now) machine.old actors.old machine.new actors.new) }
+    ensures on { IfOk result (λ r. Leads (IsOrdered order.now) (IsOrdered r.1.now) machine.old actors.old machine.new actors.new) }
     ensures less { IfOk result (λ r. r.0 ≡ true → HasLess machine.old actors.old machine.new actors.new) }
     ensures still { IfOk result (λ r. r.0 ≡ false → (f : ℕ) → may_move machine.new f ≡ false) }
 {
@@ -148,7 +148,7 @@ fn play_in_order(
     requires few { length machine.old.state.members ≤ most_federates }
     requires actors { AreActors machine.old.state actors.old }
     ensures { OnOk result ((plays : Scripts) (calls : List ℕ) → AreFollowing plays machine.old calls actors.old →
-        (end : List ℕ) × InOrder order.now (wires_at machine.old) plays (play_of machine.old calls) (play_of machine.new end)) }
+        (end : List ℕ) × Played (IsOrdered order.now) (wires_at machine.old) plays (play_of machine.old calls) (play_of machine.new end)) }
 {
     let mut left = order;
     let mut goes_on = true;
@@ -209,7 +209,7 @@ fn play_up_to_failure(
     requires actors { AreActors machine.old.state actors.old }
     ensures plan { OnOk result (machine.new.plan ≡ machine.old.plan) }
     ensures logs { IfOk result (λ failed. (plays : Scripts) (calls : List ℕ) → AreFollowing plays machine.old calls actors.old →
-        (end : List ℕ) × UpTo failed (wires_at machine.old) plays (play_of machine.old calls) (play_of machine.new end)) }
+        (end : List ℕ) × Played (IsUpTo failed) (wires_at machine.old) plays (play_of machine.old calls) (play_of machine.new end)) }
 {
     let mut hints = no_hints(alloc, machine)?;
     loop {

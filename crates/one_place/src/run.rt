@@ -5,12 +5,12 @@ ghost use Rattle.fed_script.specs.Script.{IsCourse};
 ghost use Rattle.machine_laws.specs.Refusal.{refusal_word};
 ghost use Rattle.machine_laws.specs.Machine.{KeepsTime, member_at, refusal_of, after};
 ghost use Rattle.machine_laws.specs.Machine.Step.{fail, grant};
-ghost use Rattle.machine_laws.specs.Moves.{Doing, Scripts, step_by, call_by};
+ghost use Rattle.machine_laws.specs.Moves.{Doing, Scripts, step_by, call_by, IsReference};
 ghost use Rattle.interface_names.specs.Limits.{most_federates};
 ghost use Rattle.one_place.specs.Step.{step_of};
 ghost use Rattle.one_place.specs.Machine.{refusal_at};
 ghost use Rattle.one_place.specs.Reference.{taken_over, plays_of, HasReferenceLogs};
-ghost use Rattle.one_place.specs.Run.{wires_at, names_at, play_of, may_move, is_calling, going, passed, calling_step, entry_in, actor_at, actor_after, step_at, IsNextToMove, IsActor, AreActors, AreFollowing, GoesOn, first_actors, PlaysOut, begun_stage};
+ghost use Rattle.one_place.specs.Run.{wires_at, names_at, play_of, may_move, is_calling, going, passed, calling_step, entry_in, actor_at, actor_after, step_at, IsNextToMove, IsActor, AreActors, AreFollowing, first_actors, begun_stage, Played, Leads};
 ghost use Rattle.one_place.specs.Work.{is_answering, HasLess};
 
 use crate::actor::{Actor, actors_of};
@@ -78,8 +78,7 @@ pub(crate) fn may_move(machine: &Machine, f: u16, hint: &mut usize) -> bool
 {
     match machine.phase(f) {
         Phase::Initializing | Phase::Running => true,
-        Phase::Entering | Phase::Waiting => machine.may_grant(f, hint),
-        Phase::Created | Phase::Ended(_) => false,
+        _ => machine.may_grant(f, hint),
     }
 }
 
@@ -90,6 +89,16 @@ pub(crate) fn no_hints(alloc: Global, machine: &Machine) -> Result<Vec<usize>, O
     Ok(vec![in alloc; 0; machine.count()]?)
 }
 
+// Whether a federate may act, with the hints of all.
+fn may_move_by(machine: &Machine, f: u16, hints: &mut [usize]) -> bool
+    ensures { result ≡ may_move machine.now f }
+{
+    match hints.get_mut(usize::from(f)) {
+        Some(hint) => may_move(machine, f, hint),
+        None => may_move(machine, f, &mut 0),
+    }
+}
+
 // The least federate that may act, with the hints of all.
 #[tactic(auto, using(crate::proofs::Scripts::strange_stays))]
 pub(crate) fn next_to_move(machine: &Machine, hints: &mut [usize]) -> Option<u16>
@@ -98,11 +107,7 @@ pub(crate) fn next_to_move(machine: &Machine, hints: &mut [usize]) -> Option<u16
     ensures none { IfNone result ((f : ℕ) → may_move machine.now f ≡ false) }
 {
     for f in 0..machine.count() {
-        let moves = match hints.get_mut(f) {
-            Some(hint) => may_move(machine, f as u16, hint),
-            None => may_move(machine, f as u16, &mut 0),
-        };
-        if moves {
+        if may_move_by(machine, f as u16, hints) {
             return Some(f as u16);
         }
     }
@@ -199,7 +204,7 @@ fn play_on(
 ) -> Result<bool, OutOfMemory>
     requires few { length machine.old.state.members ≤ most_federates }
     requires actors { AreActors machine.old.state actors.old }
-    ensures on { OnOk result (GoesOn machine.old actors.old machine.new actors.new) }
+    ensures on { OnOk result (Leads IsReference IsReference machine.old actors.old machine.new actors.new) }
     ensures less { IfOk result (λ more. more ≡ true → HasLess machine.old actors.old machine.new actors.new) }
     ensures still { IfOk result (λ more. more ≡ false → (f : ℕ) → may_move machine.new f ≡ false) }
 {
@@ -216,7 +221,7 @@ fn play_out(alloc: Global, machine: &mut Machine, actors: &mut [Actor]) -> Resul
     requires few { length machine.old.state.members ≤ most_federates }
     requires actors { AreActors machine.old.state actors.old }
     ensures { OnOk result ((plays : Scripts) (calls : List ℕ) → AreFollowing plays machine.old calls actors.old →
-        (end : List ℕ) × PlaysOut (wires_at machine.old) plays (play_of machine.old calls) (play_of machine.new end)) }
+        (end : List ℕ) × Played IsReference (wires_at machine.old) plays (play_of machine.old calls) (play_of machine.new end)) }
 {
     let mut hints = no_hints(alloc, machine)?;
     while play_on(alloc, machine, actors, &mut hints)? {}

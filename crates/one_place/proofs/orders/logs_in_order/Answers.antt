@@ -7,11 +7,10 @@ use Rattle.one_place.specs.Machine.{Stage}
 use Rattle.federation_plan.specs.Plan.{Federation}
 use Rattle.federation_plan.specs.Wires.{wires_of}
 use Rattle.one_place.specs.Reference.{plays_of, HasReferenceLogs}
-use Rattle.one_place.specs.Run.{play_of, wires_at, AreActors, AreFollowing, first_actors, begun_stage}
+use Rattle.one_place.specs.Run.{play_of, wires_at, AreActors, AreFollowing, first_actors, begun_stage, Played}
 use Rattle.one_place.specs.Scene.{Scene}
 use Rattle.one_place.proofs.Starting.{first_are, first_follow}
-use Rattle.one_place.specs.Orders.{HasOrderedLogs}
-use Rattle.one_place.specs.Playing.{InOrder}
+use Rattle.one_place.specs.Orders.{HasOrderedLogs, IsOrdered}
 use Rattle.one_place.proofs.Endings.{ordered_logs, ordered_reference}
 use Rattle.one_place.proofs.orders.logs_in_order.Goals as goal
 
@@ -37,8 +36,8 @@ returns c =
     (subst (λ (xs : List Actor). AreFollowing (plays_of p scripts) (begun_stage p) none xs) (sym actors) (first_follow p scripts c.scenario.invariant.each)) in
     let out = c.in_ok-play_in_order.ensures (plays_of p scripts) none following in
     let end : Play = play_of c.play_in_order.new.machine out.0 in
-    let from : InOrder c.args.order.now (wires_of p) (plays_of p scripts) (play_of (begun_stage p) none) end =
-    subst (λ (s : Stage). InOrder c.args.order.now (wires_at s) (plays_of p scripts) (play_of s none) end) machine out.1 in
+    let from : Played (IsOrdered c.args.order.now) (wires_of p) (plays_of p scripts) (play_of (begun_stage p) none) end =
+    subst (λ (s : Stage). Played (IsOrdered c.args.order.now) (wires_at s) (plays_of p scripts) (play_of s none) end) machine out.1 in
     let ordered = ordered_logs p scripts c.args.order.now c.play_in_order.new.machine.state out.0 c.into_logs.result.feds from c.into_logs.ensures in
     let reference = ordered_reference p scripts c.args.order.now c.into_logs.result.feds c.federates.ensures.plan c.scenario.invariant.rules ordered in
     record {

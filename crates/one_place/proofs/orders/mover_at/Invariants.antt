@@ -1,6 +1,6 @@
 use Rattle.std.proofs.Common.{◌≡◌, ◌-◌, length, slice_get}
 use Rattle.one_place.specs.Run.{may_move}
-use Rattle.one_place.specs.Orders.{passing}
+use Rattle.one_place.proofs.Movers.{passing}
 use Rattle.one_place.specs.Playing.{movers_at}
 use Rattle.one_place.proofs.orders.mover_at.Given as goal
 

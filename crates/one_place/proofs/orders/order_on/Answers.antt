@@ -1,15 +1,15 @@
-use Rattle.std.proofs.Common.{rules, ◌≡◌, ◌∙◌, ℕ, List, drop, ap, sym, subst, arith, Some, None, true, false}
+use Rattle.std.proofs.Common.{◌≡◌, ◌∙◌, ℕ, List, drop, ap, sym, subst, arith, Some}
 use Rattle.std.proofs.lemmas.Bool.{false≢true}
 use Rattle.one_place.specs.Machine.{Stage}
-use Rattle.one_place.specs.Orders.{pick, first_number}
-use Rattle.one_place.specs.Playing.{movers_at, InOrder, Leads}
-use Rattle.one_place.specs.Run.{may_move}
-use Rattle.one_place.proofs.Turns.{turned, moving_known}
-use Rattle.one_place.proofs.Ordering.{picked_moves, none_picked, leads_there, leads_through, picked_leads}
+use Rattle.one_place.specs.Orders.{pick, first_number, IsOrdered}
+use Rattle.one_place.specs.Playing.{movers_at}
+use Rattle.one_place.specs.Run.{Leads}
+use Rattle.one_place.proofs.Turns.{turned, moving_known, leads_there, leads_through}
+use Rattle.one_place.proofs.Ordering.{picked_moves, none_picked, picked_leads}
 use Rattle.one_place.proofs.orders.order_on.Goals as goal
 
 pub loop-f-init : goal.loop-f-init
-loop-f-init c = record { on = leads_there (InOrder c.args.order.now) c.args.machine.now c.args.actors.now c.requires.actors; no_more = omega arith }
+loop-f-init c = record { on = leads_there (IsOrdered c.args.order.now) c.args.machine.now c.args.actors.now c.requires.actors; no_more = omega arith }
 
 pub turn-requires-clause-moves : goal.turn-requires-clause-moves
 turn-requires-clause-moves c = picked_moves c.loop-f.machine c.first_number.result c.in-Some.f (sym c.picked.ensures ∙ c.in-Some.is)
@@ -29,8 +29,8 @@ returns-then-not-answered c =
     let turn = turned c.loop-f.machine c.turn.new.machine c.in-Some.f c.loop-f.actors c.turn.new.actors c.loop-f.invariant.on.ready (picked_moves c.loop-f.machine (first_number c.loop-f.left.now) c.in-Some.f picks)
     c.in_ok-answered.ensures.machine c.in_ok-answered.ensures.actors in
     let there = picked_leads c.loop-f.machine c.turn.new.machine c.in-Some.f c.loop-f.left.now c.loop-f.actors c.turn.new.actors c.loop-f.invariant.on.ready picks plan turn in
-    let through = leads_through (InOrder c.args.order.now) (InOrder c.loop-f.left.now) (InOrder (drop 1 c.loop-f.left.now)) c.args.machine.now c.loop-f.machine c.turn.new.machine c.args.actors.now c.loop-f.actors c.turn.new.actors c.loop-f.invariant.on there in
-    let leads = subst (λ (left : List ℕ). Leads (InOrder c.args.order.now) (InOrder left) c.args.machine.now c.args.actors.now c.turn.new.machine c.turn.new.actors) (sym c.behind_first-left.ensures) through in
+    let through = leads_through (IsOrdered c.args.order.now) (IsOrdered c.loop-f.left.now) (IsOrdered (drop 1 c.loop-f.left.now)) c.args.machine.now c.loop-f.machine c.turn.new.machine c.args.actors.now c.loop-f.actors c.turn.new.actors c.loop-f.invariant.on there in
+    let leads = subst (λ (left : List ℕ). Leads (IsOrdered c.args.order.now) (IsOrdered left) c.args.machine.now c.args.actors.now c.turn.new.machine c.turn.new.actors) (sym c.behind_first-left.ensures) through in
     let falls = turn.falls (sym c.in_ok-answered.ensures.answered ∙ c.if-not-answered.true) in
     let no_more = c.loop-f.invariant.no_more in
     record { on = leads; less = λ is. omega (arith, falls, no_more); still = λ is. absurd (false≢true (sym is)) }
@@ -52,8 +52,8 @@ loop-f-preserved c =
     let turn = turned c.loop-f.machine c.turn.new.machine c.in-Some.f c.loop-f.actors c.turn.new.actors c.loop-f.invariant.on.ready (picked_moves c.loop-f.machine (first_number c.loop-f.left.now) c.in-Some.f picks)
     c.in_ok-answered.ensures.machine c.in_ok-answered.ensures.actors in
     let there = picked_leads c.loop-f.machine c.turn.new.machine c.in-Some.f c.loop-f.left.now c.loop-f.actors c.turn.new.actors c.loop-f.invariant.on.ready picks plan turn in
-    let through = leads_through (InOrder c.args.order.now) (InOrder c.loop-f.left.now) (InOrder (drop 1 c.loop-f.left.now)) c.args.machine.now c.loop-f.machine c.turn.new.machine c.args.actors.now c.loop-f.actors c.turn.new.actors c.loop-f.invariant.on there in
-    let leads = subst (λ (left : List ℕ). Leads (InOrder c.args.order.now) (InOrder left) c.args.machine.now c.args.actors.now c.turn.new.machine c.turn.new.actors) (sym c.behind_first-left.ensures) through in
+    let through = leads_through (IsOrdered c.args.order.now) (IsOrdered c.loop-f.left.now) (IsOrdered (drop 1 c.loop-f.left.now)) c.args.machine.now c.loop-f.machine c.turn.new.machine c.args.actors.now c.loop-f.actors c.turn.new.actors c.loop-f.invariant.on there in
+    let leads = subst (λ (left : List ℕ). Leads (IsOrdered c.args.order.now) (IsOrdered left) c.args.machine.now c.args.actors.now c.turn.new.machine c.turn.new.actors) (sym c.behind_first-left.ensures) through in
     let stays = (turn.stays (sym c.in_ok-answered.ensures.answered ∙ c.if-not-answered.false)).0 in
     let no_more = c.loop-f.invariant.no_more in
     record { on = leads; no_more = omega (arith, stays, no_more) }

@@ -1,13 +1,13 @@
-use Rattle.std.proofs.Common.{rules, ◌≡◌, ◌∙◌, ℕ, List, true, false}
-use Rattle.one_place.specs.Playing.{InOrder}
-use Rattle.one_place.proofs.Ordering.{leads_through, order_ends}
+use Rattle.one_place.specs.Orders.{IsOrdered}
+use Rattle.one_place.proofs.Turns.{leads_through}
+use Rattle.one_place.proofs.Ordering.{order_ends}
 use Rattle.one_place.proofs.orders.play_in_order.Goals as goal
 
 pub loop-goes_on-preserved : goal.loop-goes_on-preserved
 loop-goes_on-preserved c =
     let next = c.in_ok-goes_on.ensures in
     record {
-      on = leads_through (InOrder c.args.order.now) (InOrder c.loop-goes_on.left.now) (InOrder c.in_ok-goes_on.field-0-1.now) c.args.machine.now c.loop-goes_on.machine c.order_on.new.machine c.args.actors.now c.loop-goes_on.actors
+      on = leads_through (IsOrdered c.args.order.now) (IsOrdered c.loop-goes_on.left.now) (IsOrdered c.in_ok-goes_on.field-0-1.now) c.args.machine.now c.loop-goes_on.machine c.order_on.new.machine c.args.actors.now c.loop-goes_on.actors
           c.order_on.new.actors c.loop-goes_on.invariant.on next.on;
       still = next.still;
     }

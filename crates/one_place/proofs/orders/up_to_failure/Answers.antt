@@ -7,11 +7,10 @@ use Rattle.one_place.specs.Machine.{Stage}
 use Rattle.federation_plan.specs.Plan.{Federation}
 use Rattle.federation_plan.specs.Wires.{wires_of}
 use Rattle.one_place.specs.Reference.{plays_of, HasReferenceLogs}
-use Rattle.one_place.specs.Run.{play_of, wires_at, AreActors, AreFollowing, first_actors, begun_stage}
+use Rattle.one_place.specs.Run.{play_of, wires_at, AreActors, AreFollowing, first_actors, begun_stage, Played}
 use Rattle.one_place.specs.Scene.{Scene}
 use Rattle.one_place.proofs.Starting.{first_are, first_follow}
-use Rattle.one_place.specs.Orders.{HasLogsUpToFailure}
-use Rattle.one_place.specs.Playing.{UpTo}
+use Rattle.one_place.specs.Orders.{HasLogsUpToFailure, IsUpTo}
 use Rattle.one_place.proofs.Endings.{failure_logs, unfailed_reference}
 use Rattle.one_place.proofs.orders.up_to_failure.Goals as goal
 
@@ -38,8 +37,8 @@ returns c =
     let out = c.in_ok-failed.ensures.logs (plays_of p scripts) none following in
     let failed = c.in_ok-failed.failed in
     let end : Play = play_of c.play_up_to_failure.new.machine out.0 in
-    let from : UpTo failed (wires_of p) (plays_of p scripts) (play_of (begun_stage p) none) end =
-    subst (λ (s : Stage). UpTo failed (wires_at s) (plays_of p scripts) (play_of s none) end) machine out.1 in
+    let from : Played (IsUpTo failed) (wires_of p) (plays_of p scripts) (play_of (begun_stage p) none) end =
+    subst (λ (s : Stage). Played (IsUpTo failed) (wires_at s) (plays_of p scripts) (play_of s none) end) machine out.1 in
     let feds = c.into_parts-plan.result.1.feds in
     let logs = failure_logs p scripts failed c.play_up_to_failure.new.machine.state out.0 feds from c.into_parts-plan.ensures.logs in
     record {

@@ -1,10 +1,11 @@
 use Rattle.std.proofs.Common.{◌≡◌, ◌∙◌, ap, sym, arith}
 use Rattle.one_place.specs.Machine.{Stage}
-use Rattle.one_place.proofs.Turns.{turned, stays_there, goes_further}
+use Rattle.machine_laws.specs.Moves.{IsReference}
+use Rattle.one_place.proofs.Turns.{turned, leads_there, goes_further}
 use Rattle.one_place.proofs.run.play_on.Goals as goal
 
 pub loop-f-init : goal.loop-f-init
-loop-f-init c = record { on = stays_there c.args.machine.now c.args.actors.now c.requires.actors; no_more = omega arith }
+loop-f-init c = record { on = leads_there IsReference c.args.machine.now c.args.actors.now c.requires.actors; no_more = omega arith }
 
 pub returns-then-not-branch-clause-on : goal.returns-then-not-branch-clause-on
 returns-then-not-branch-clause-on c =

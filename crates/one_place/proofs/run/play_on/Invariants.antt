@@ -1,5 +1,6 @@
 use Rattle.std.proofs.Common.{◌≤◌}
-use Rattle.one_place.specs.Run.{GoesOn}
+use Rattle.one_place.specs.Run.{Leads}
+use Rattle.machine_laws.specs.Moves.{IsReference}
 use Rattle.one_place.specs.Work.{work, letters}
 use Rattle.one_place.proofs.run.play_on.Given as goal
 
@@ -7,7 +8,7 @@ use Rattle.one_place.proofs.run.play_on.Given as goal
 abbrev pub invariant-loop-f : goal.invariant-loop-f
 invariant-loop-f l =
     record {
-      on : GoesOn l.fn.machine l.fn.actors l.machine l.actors;
+      on : Leads IsReference IsReference l.fn.machine l.fn.actors l.machine l.actors;
       no_more : work l.machine.state.members l.actors ≤ work l.fn.machine.state.members l.fn.actors;
     }
 

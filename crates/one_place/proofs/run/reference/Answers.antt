@@ -1,13 +1,13 @@
 use Rattle.std.proofs.Common.{◌≡◌, ◌∙◌, List, ap, sym, subst, length}
 use Rattle.std.specs.Prelude.{replicate}
-use Rattle.machine_laws.specs.Moves.{Play}
+use Rattle.machine_laws.specs.Moves.{Play, IsReference}
 use Rattle.one_place.specs.declared.actor.Actor.{Actor}
 use Rattle.interface_names.specs.declared.records.FederateRecord.{FederateRecord}
 use Rattle.one_place.specs.Machine.{Stage}
 use Rattle.federation_plan.specs.Plan.{Federation}
 use Rattle.federation_plan.specs.Wires.{wires_of}
 use Rattle.one_place.specs.Reference.{plays_of, HasReferenceLogs}
-use Rattle.one_place.specs.Run.{play_of, wires_at, AreActors, AreFollowing, PlaysOut, first_actors, begun_stage}
+use Rattle.one_place.specs.Run.{play_of, wires_at, AreActors, AreFollowing, first_actors, begun_stage, Played}
 use Rattle.one_place.specs.Scene.{Scene}
 use Rattle.one_place.proofs.Starting.{first_are, first_follow, reference_logs}
 use Rattle.one_place.proofs.run.reference.Goals as goal
@@ -34,7 +34,7 @@ returns c =
     (subst (λ (xs : List Actor). AreFollowing (plays_of p scripts) (begun_stage p) none xs) (sym actors) (first_follow p scripts c.scenario.invariant.each)) in
     let out = c.in_ok-play_out.ensures (plays_of p scripts) none following in
     let end : Play = play_of c.play_out.new.machine out.0 in
-    let from : PlaysOut (wires_of p) (plays_of p scripts) (play_of (begun_stage p) none) end =
-    subst (λ (s : Stage). PlaysOut (wires_at s) (plays_of p scripts) (play_of s none) end) machine out.1 in
+    let from : Played IsReference (wires_of p) (plays_of p scripts) (play_of (begun_stage p) none) end =
+    subst (λ (s : Stage). Played IsReference (wires_at s) (plays_of p scripts) (play_of s none) end) machine out.1 in
     subst (λ (s : Scene). HasReferenceLogs s.plan s.scripts c.into_logs.result.feds) c.scenario.view_is
     (reference_logs p scripts c.play_out.new.machine.state out.0 c.into_logs.result.feds from c.into_logs.ensures)
