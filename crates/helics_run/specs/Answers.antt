@@ -12,7 +12,7 @@ use Rattle.helics_run.specs.declared.status.Status.{Status}
 use Rattle.helics_run.specs.declared.status.Status.TheVariants.{SinkFault}
 use Rattle.helics_run.specs.declared.printing.Printed.{Printed}
 use Rattle.helics_run.specs.Printing.{Content, PrintsBy, RefusesBy, AsksBy}
-use Rattle.helics_run.specs.Command.{AskFor, Prints, Refuses, AsksAt}
+use Rattle.helics_run.specs.Command.{HasVerb, AskFor, Prints, Refuses, AsksAt}
 
 -- failures of the parts below
 abbrev pub failure_of_words : WordsRefusal → Failure
@@ -38,7 +38,7 @@ Answers content words (Ok p) = Prints content words p
 Answers content words (Err BadWords) = ¬ AskFor words
 Answers content words (Err (FileFault path)) = AsksAt content words path
 Answers content words (Err (Refused refusal)) = Refuses content words refusal
-Answers content words (Err OutOfMemory) = Unit {0}
+Answers content words (Err OutOfMemory) = HasVerb words
 
 -- the count of faults rose only in a failed read, whose path is kept
 abbrev pub CountsFaults : {X : Type 0} → Result X Failure → ℕ → ℕ → List ℕ → Type 0

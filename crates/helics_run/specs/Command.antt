@@ -1,9 +1,9 @@
 -- What the program answers to its words.
-use Rattle.std.specs.Prelude.{ℕ, ◌≡◌, ◌⊎◌, List, Option, IsSome, Ok, map, string_bytes, String}
+use Rattle.std.specs.Prelude.{ℕ, ◌≡◌, ◌⊎◌, List, [], ◌∷◌, Option, IsSome, Ok, map, string_bytes, String}
 use Rattle.std.specs.declared.alloc.Global.{Global}
 use Rattle.command_words.specs.declared.Asked.{Asked}
 use Rattle.command_words.specs.declared.Verb.TheVariants.{Sim}
-use Rattle.command_words.specs.Words.{IsAsked}
+use Rattle.command_words.specs.Words.{verb_of, IsAsked}
 use Rattle.fed_script.specs.Script.{Course}
 use Rattle.machine_laws.specs.Laws.{WaitForEachOther}
 use Rattle.federation_plan.specs.Plan.{Federation}
@@ -20,6 +20,11 @@ use Rattle.helics_run.specs.Printing.{Content, IsPlanOf, PrintsBy, RefusesBy, As
 -- the words as texts
 abbrev pub texts : List (String Global) → List (List ℕ)
 texts words = map string_bytes words
+
+-- the first word is one of the program's
+abbrev pub HasVerb : List (List ℕ) → Type 0
+HasVerb [] = ⊥
+HasVerb (first ∷ rest) = IsSome (verb_of first)
 
 -- the words ask for something
 abbrev pub AskFor : List (List ℕ) → Type 0

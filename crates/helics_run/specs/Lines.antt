@@ -6,6 +6,7 @@ use Rattle.interface_names.specs.declared.records.FederateRecord.{FederateRecord
 use Rattle.machine_laws.specs.declared.logs.FedLog.{FedLog}
 use Rattle.machine_laws.specs.declared.logs.LogEnd.{LogEnd}
 use Rattle.machine_laws.specs.declared.logs.LogEnd.TheVariants.{Ended, FailedText, Open}
+use Rattle.federation_plan.specs.Interfaces.{federate_at}
 use Rattle.scenario_reading.specs.Refusals.{text_of}
 use Rattle.scenario_reading.specs.declared.refusal.Refusal.{Refusal}
 
@@ -38,12 +39,9 @@ failure_text (FailedText text) = text
 failure_text (Ended cause) = []
 failure_text (Open phase) = []
 
-abbrev pub name_at : List FederateRecord → ℕ → List ℕ
-name_at feds f = option_map_or (λ (fed : FederateRecord). fed.name) (slice_get feds f) []
-
 abbrev pub failure_at : List FedLog → ℕ → List ℕ
 failure_at logs f = option_map_or (λ (l : FedLog). failure_text l.end) (slice_get logs f) []
 
 -- the federate whose failure ended the run, by its name, and the failure's text as JSON text
 abbrev pub halted_by : List FederateRecord → List FedLog → ℕ → List ℕ
-halted_by feds logs f = codes "halted by " ++ name_at feds f ++ codes ": failed " ++ quoted (failure_at logs f)
+halted_by feds logs f = codes "halted by " ++ (federate_at feds f).name ++ codes ": failed " ++ quoted (failure_at logs f)

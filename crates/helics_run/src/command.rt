@@ -4,7 +4,7 @@ ghost use Rattle.hel_outside.specs.Faults.{Rose, Gains, GainsPart};
 ghost use Rattle.scenario_reading.specs.declared.refusal.Refusal.{Refusal};
 ghost use Rattle.helics_run.specs.declared.printing.Printed.{Printed as Printing};
 ghost use Rattle.helics_run.specs.Lines.{error_line, bad_words, cannot_read, cannot_write, out_of_memory, refused};
-ghost use Rattle.helics_run.specs.Command.{texts, AskFor, Prints, Refuses, AsksAt, IsPlanAt, NoneWait, TellsAll, IsPrinting, IsLater, Stands};
+ghost use Rattle.helics_run.specs.Command.{texts, HasVerb, AskFor, Prints, Refuses, AsksAt, IsPlanAt, NoneWait, TellsAll, IsPrinting, IsLater, Stands};
 ghost use Rattle.helics_run.specs.Answers.{Answers, CountsFaults, Tells};
 
 use crate::failure::Failure;
@@ -86,9 +86,9 @@ pub fn command<F: Files, O: Sink, E: Sink>(
     ensures cannot_write { result ≡ Status.SinkFault → ¬ Rose (E.faults err.old) (E.faults err.new)
         → Gains (E.written err.old) (E.written err.new) (error_line cannot_write) }
 
-    // 9 may come at any time.
-    ensures out_of_memory { result ≡ Status.OutOfMemory
-        → Gains (E.written err.old) (E.written err.new) (error_line out_of_memory) }
+    // 9 may come at any time, but only behind a first word that is one of the program's: else the answer is 2 or 5.
+    ensures out_of_memory { result ≡ Status.OutOfMemory → HasVerb (texts words.now.items)
+        × Gains (E.written err.old) (E.written err.new) (error_line out_of_memory) }
 
     // Nothing else is written to `out`, and what the files hold stays.
     ensures no_out { ¬ IsPrinting result → result ≢ Status.SinkFault → Gains (O.written out.old) (O.written out.new) [] }

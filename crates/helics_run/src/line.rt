@@ -1,7 +1,8 @@
 //! Lines on standard error (docs/FORMATS.md, Error lines).
 ghost use Rattle.std.specs.Prelude.{◌≡◌, IfOk, string_bytes};
 ghost use Rattle.json.specs.Print.{quoted};
-ghost use Rattle.helics_run.specs.Lines.{error_line, cannot_read, refused, failure_text, name_at, failure_at, halted_by};
+ghost use Rattle.federation_plan.specs.Interfaces.{federate_at};
+ghost use Rattle.helics_run.specs.Lines.{error_line, cannot_read, refused, failure_text, failure_at, halted_by};
 
 use hel_lists::{OutOfMemory, Text};
 use interface_names::FederateRecord;
@@ -57,7 +58,7 @@ fn quoted(alloc: Global, text: &str) -> Result<String, OutOfMemory>
 }
 
 fn name_at(federates: &[FederateRecord], f: u16) -> &str
-    ensures { result.now ≡ name_at federates.now f }
+    ensures { result.now ≡ (federate_at federates.now f).name }
 {
     match federates.get(usize::from(f)) {
         Some(federate) => federate.name.as_str(),

@@ -1,6 +1,8 @@
 //! Runs a federation: `helics_run sim FILE` (docs/FORMATS.md).
 #![tactic(auto)]
 
+ghost use Rattle.std.specs.Prelude.{◌≡◌, drop};
+
 mod command;
 mod failure;
 mod line;
@@ -18,22 +20,23 @@ use std::io::ErrorKind;
 use std::process::ExitCode;
 use std::rt::Env;
 
-// The words behind the program's own name, and none where one of them isn't text.
-fn words_of(rt: &(impl Env + Alloc<A = Global>)) -> Result<Vec<String>, OutOfMemory> {
-    let mut words = Vec::new(rt.alloc());
-    match env::args(rt) {
-        Ok(all) => {
-            for word in all.skip(1) {
-                words.push(word)?;
-            }
-        }
-        Err(e) => {
-            if e.kind() == ErrorKind::OutOfMemory {
-                return Err(OutOfMemory);
-            }
-        }
+// The words behind the program's own name.
+fn behind_name(mut words: Vec<String>) -> Vec<String>
+    ensures { result.items ≡ drop 1 words.items }
+{
+    if !words.is_empty() {
+        words.remove(0);
     }
-    Ok(words)
+    words
+}
+
+// These of the program's arguments, and none where one of them isn't text.
+fn words_of(rt: &(impl Env + Alloc<A = Global>)) -> Result<Vec<String>, OutOfMemory> {
+    match env::args(rt) {
+        Ok(all) => Ok(behind_name(all.collect(rt.alloc())?)),
+        Err(e) if e.kind() == ErrorKind::OutOfMemory => Err(OutOfMemory),
+        Err(_) => Ok(Vec::new(rt.alloc())),
+    }
 }
 
 fn main(rt: HostRuntime) -> ExitCode {
