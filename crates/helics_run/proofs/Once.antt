@@ -1,39 +1,35 @@
 -- What files tell decides what is printed.
-use Rattle.std.proofs.Common.{◌≡◌, ◌∙◌, ℕ, ◌<◌, ◌≤◌, ◌⊎◌, inl, inr, Bool, true, false, List, [], ◌∷◌, length, Option, Some, None, Result, Ok, Err, IsSome, refl, sym, ap, subst, arith, String}
+use Rattle.std.proofs.Common.{◌≡◌, ◌∙◌, ℕ, ◌≤◌, inl, inr, true, false, List, [], ◌∷◌, length, Option, Some, None, Result, Ok, Err, IsSome, refl, sym, ap, subst, arith, String}
 use Rattle.std.specs.Prelude.{is_err, OnOk}
 use Rattle.std.specs.declared.alloc.Global.{Global}
-use Rattle.std.proofs.lemmas.Bool.{false≢true, true≢false, cases_lt}
+use Rattle.std.proofs.lemmas.Bool.{false≢true, cases_lt}
 use Rattle.std.proofs.lemmas.Option.{none-some, same_Some}
 use Rattle.hel_outside.specs.Faults.{file_limit}
 use Rattle.interface_names.specs.declared.records.FederateRecord.{FederateRecord}
 use Rattle.dependency_paths.specs.Paths.{AreAncestors}
 use Rattle.dependency_paths.proofs.Ancestry.{ancestor_laws}
-use Rattle.machine_laws.specs.declared.logs.FedLog.{FedLog}
 use Rattle.machine_laws.specs.Machine.{logs_of}
 use Rattle.machine_laws.specs.Plan.{Plan}
 use Rattle.machine_laws.specs.Moves.{Scripts, Play, opening_play, move, IsUpToFailure, failed_in}
-use Rattle.federation_plan.specs.declared.tree.Tree.{Tree}
 use Rattle.federation_plan.specs.Plan.{Federation, IsFederation}
 use Rattle.federation_plan.specs.Depends.{depends}
 use Rattle.federation_plan.specs.Waiting.{IsFirstWait, ComesFirst}
 use Rattle.federation_plan.specs.Wires.{wires_of}
 use Rattle.log_text.specs.Check.{check_of}
 use Rattle.fed_script.specs.Script.{Course}
-use Rattle.one_place.specs.Orders.{HasLogsUpToFailure}
 use Rattle.one_place.specs.Reference.{plays_of}
 use Rattle.command_words.specs.declared.Asked.{Asked}
 use Rattle.command_words.specs.declared.Verb.{Verb}
 use Rattle.command_words.specs.declared.Verb.TheVariants.{Check, Sim}
-use Rattle.command_words.specs.Words.{IsAsked, verb_of}
+use Rattle.command_words.specs.Words.{IsAsked}
 use Rattle.scenario_reading.specs.Order.{Given, bytes, too_large, Order, ends, asks, MayGive, Reads, AsksFor}
 use Rattle.scenario_reading.specs.Fitting.{Scene}
 use Rattle.scenario_reading.specs.Reading.{setting_at, scenario_at}
 use Rattle.scenario_reading.specs.declared.refusal.Refusal.{Refusal}
 use Rattle.helics_run.specs.declared.printing.Printed.{Printed}
 use Rattle.helics_run.specs.declared.status.Status.{Status}
-use Rattle.helics_run.specs.declared.status.Status.TheVariants.{SinkFault}
-use Rattle.helics_run.specs.Printing.{Content, IsPlanOf, IsRunOf, IsTextOf, IsCheckOf, IsSimOf, PrintsBy, RefusesBy, AsksBy, run_printed}
-use Rattle.helics_run.specs.Command.{texts, Prints, Refuses, AsksAt, TellsAll, Stands}
+use Rattle.helics_run.specs.Printing.{Content, IsRunOf, IsTextOf, PrintsBy, RefusesBy, AsksBy, run_printed}
+use Rattle.helics_run.specs.Command.{texts, Prints, Refuses, TellsAll, Stands}
 use Rattle.helics_run.specs.declared.failure.Failure.{Failure}
 use Rattle.helics_run.specs.declared.failure.Failure.TheVariants.{Refused}
 use Rattle.helics_run.specs.Answers.{Answers, Tells}

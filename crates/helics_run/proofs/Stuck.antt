@@ -9,9 +9,7 @@ use Rattle.time_state.specs.declared.Cause.TheVariants.{Finished, Failed, Died, 
 use Rattle.time_state.specs.declared.Phase.{Phase}
 use Rattle.time_state.specs.declared.Phase.TheVariants.{Created, Initializing, Entering, Running, Waiting, Ended}
 use Rattle.machine_laws.specs.declared.logs.FedLog.{FedLog}
-use Rattle.machine_laws.specs.Plan.{Plan, IsPlan}
-use Rattle.machine_laws.specs.Machine.{Member, blank_member, member_at, log_of, logs_of, end_of}
-use Rattle.machine_laws.specs.Moves.{opening_play, IsUpToFailure}
+use Rattle.machine_laws.specs.Machine.{Member, blank_member, log_of, end_of}
 use Rattle.machine_laws.proofs.Failures.{stops_at_failure}
 use Rattle.federation_plan.specs.Plan.{Federation, IsFederation}
 use Rattle.federation_plan.specs.Wires.{wires_of}
@@ -21,13 +19,11 @@ use Rattle.fed_script.specs.Script.{Course, IsCourse}
 use Rattle.one_place.specs.Orders.{HasLogsUpToFailure}
 use Rattle.one_place.specs.Reference.{plays_of}
 use Rattle.one_place.proofs.Accepting.{times_of}
-use Rattle.command_words.specs.declared.Asked.{Asked}
 use Rattle.command_words.specs.declared.Verb.{Verb}
 use Rattle.command_words.specs.declared.Verb.TheVariants.{Check, Sim}
 use Rattle.helics_run.specs.declared.printing.Printed.{Printed}
-use Rattle.helics_run.specs.declared.status.Status.{Status}
 use Rattle.helics_run.specs.declared.status.Status.TheVariants.{Done, Halted, SinkFault, Stuck}
-use Rattle.helics_run.specs.Printing.{Content, IsRunOf, IsCheckOf, IsSimOf, PrintsBy, ends_live, is_live_end, status_of, run_printed}
+use Rattle.helics_run.specs.Printing.{Content, PrintsBy, ends_live, is_live_end, status_of}
 use Rattle.helics_run.specs.Command.{Prints, IsPlanAt, NoneWait}
 
 -- a log that ends live is that of a live federate

@@ -1,5 +1,5 @@
 -- What the program answers to its words.
-use Rattle.std.specs.Prelude.{ℕ, ◌≡◌, ◌⊎◌, List, [], ◌∷◌, Option, IsSome, Ok, map, string_bytes, String}
+use Rattle.std.specs.Prelude.{ℕ, ◌≡◌, ◌⊎◌, List, [], ◌∷◌, IsSome, Ok, map, string_bytes, String}
 use Rattle.std.specs.declared.alloc.Global.{Global}
 use Rattle.command_words.specs.declared.Asked.{Asked}
 use Rattle.command_words.specs.declared.Verb.TheVariants.{Sim}
@@ -13,7 +13,7 @@ use Rattle.scenario_reading.specs.Fitting.{Scene}
 use Rattle.scenario_reading.specs.Reading.{scenario_at}
 use Rattle.scenario_reading.specs.declared.refusal.Refusal.{Refusal}
 use Rattle.helics_run.specs.declared.status.Status.{Status}
-use Rattle.helics_run.specs.declared.status.Status.TheVariants.{Done, Halted, BadWords, FileFault, Refused, SinkFault, OutsideFault, LinkFault, Stuck, OutOfMemory, CountLimit, Mismatch}
+use Rattle.helics_run.specs.declared.status.Status.TheVariants.{Done, Halted, SinkFault, OutsideFault, LinkFault, Stuck, OutOfMemory, CountLimit, Mismatch}
 use Rattle.helics_run.specs.declared.printing.Printed.{Printed}
 use Rattle.helics_run.specs.Printing.{Content, IsPlanOf, PrintsBy, RefusesBy, AsksBy}
 

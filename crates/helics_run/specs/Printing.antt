@@ -1,5 +1,5 @@
 -- What is printed of the files at a path: of `check` the plan, of `sim` the logs of its run up to the first failure.
-use Rattle.std.specs.Prelude.{ℕ, ◌≡◌, Bool, true, false, if◌then◌else◌, List, [], Option, Some, None, Result, Ok, Err}
+use Rattle.std.specs.Prelude.{ℕ, ◌≡◌, Bool, true, false, if◌then◌else◌, List, [], Option, Some, None, Ok, Err}
 use Rattle.std.specs.List.{list_any}
 use Rattle.interface_names.specs.declared.records.FederateRecord.{FederateRecord}
 use Rattle.machine_laws.specs.declared.logs.FedLog.{FedLog}

@@ -9,7 +9,6 @@ use Rattle.time_state.specs.declared.Phase.{Phase}
 use Rattle.time_state.specs.declared.Phase.TheVariants.{Created, Initializing, Entering, Running, Waiting, Ended}
 use Rattle.hel_values.specs.declared.EndRef.{EndRef}
 use Rattle.fed_script.specs.View.{Sight}
-use Rattle.machine_laws.specs.declared.logs.LogEntry.{LogEntry}
 use Rattle.machine_laws.specs.declared.refusal.CallRefusal.{CallRefusal}
 use Rattle.machine_laws.specs.declared.refusal.Unlawful.{Unlawful}
 use Rattle.machine_laws.specs.declared.refusal.Unlawful.TheVariants.{NotAsked, StrangeNumber}

@@ -1,5 +1,5 @@
 -- The nodes of a tree.
-use Rattle.std.proofs.Common.{◌≡◌, ◌∙◌, ℕ, ◌+◌, suc, arith, List, [], ◌∷◌, ◌++◌, length, map, length-append, ap, refl}
+use Rattle.std.proofs.Common.{◌≡◌, ℕ, ◌+◌, suc, arith, List, [], ◌∷◌, length, length-append, ap, refl}
 use Rattle.federation_plan.specs.declared.tree.NodeKind.{NodeKind}
 use Rattle.runner_config.specs.declared.shape.NodeText.{NodeText}
 use Rattle.runner_config.specs.declared.shape.TreeText.{TreeText}

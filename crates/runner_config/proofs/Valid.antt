@@ -1,13 +1,13 @@
 -- The nodes of a tree without a cause, with the cores of the entries, are a valid tree.
-use Rattle.std.proofs.Common.{◌≡◌, ◌≢◌, ◌∙◌, ◌⊎◌, inl, inr, ℕ, zero, suc, ◌+◌, ◌-◌, ◌<◌, ◌≤◌, arith, Bool, true, false, ◌&&◌, cond, not, List, [], ◌∷◌, ◌++◌, length, map, filter, get_or, length-append, Option, Some, None, is_some, ap, sym, subst, refl, nat_lt, nat_le}
+use Rattle.std.proofs.Common.{◌≡◌, ◌≢◌, ◌∙◌, inl, inr, ℕ, zero, suc, ◌+◌, ◌-◌, ◌<◌, ◌≤◌, arith, Bool, true, false, ◌&&◌, cond, not, List, [], ◌∷◌, length, map, length-append, Option, Some, None, is_some, ap, sym, subst, refl, nat_lt}
 use Rattle.std.specs.Prelude.{unwrap_or}
-use Rattle.std.specs.List.{list_all, position_or_len}
+use Rattle.std.specs.List.{position_or_len}
 use Rattle.std.specs.Str.{bytes_eq}
 use Rattle.runner_config.specs.declared.refusal.TreeCause.TheVariants.{NameTwice, UnknownParent, UnknownCore, TooManyNodes}
 use Rattle.std.proofs.lemmas.Bool.{cases_lt}
 use Rattle.std.proofs.lemmas.Bool.Decides.{nat_tests}
 use Rattle.std.proofs.lemmas.List.{get_or-append_right, get_or_append_left}
-use Rattle.hel_lists.specs.Members.{IsIn, Each}
+use Rattle.hel_lists.specs.Members.{IsIn}
 use Rattle.federation_plan.specs.declared.tree.NodeKind.{NodeKind}
 use Rattle.federation_plan.specs.declared.tree.NodeKind.TheVariants.{Root, Broker, Core}
 use Rattle.federation_plan.specs.declared.tree.NodeRow.{NodeRow}

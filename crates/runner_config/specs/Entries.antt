@@ -1,5 +1,5 @@
 -- The entries of a runner file.
-use Rattle.std.specs.Prelude.{ℕ, ◌<◌, ◌+◌, ◌&&◌, ◌||◌, Bool, true, false, not, if◌then◌else◌, List, [], ◌∷◌, codes, AllPairs, Option, Some, None, option_map, option_and_then, unwrap_or, ok_or, Result, Ok, Err}
+use Rattle.std.specs.Prelude.{ℕ, ◌<◌, ◌+◌, ◌&&◌, ◌||◌, Bool, true, false, not, if◌then◌else◌, List, [], ◌∷◌, codes, AllPairs, Option, Some, None, option_map, option_and_then, unwrap_or, ok_or, Ok, Err}
 use Rattle.std.specs.Option.{option_map_or}
 use Rattle.std.specs.Str.{bytes_eq}
 use Rattle.serde_json.specs.Data.{Data, Items, no_items, item}

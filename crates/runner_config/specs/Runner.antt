@@ -1,5 +1,5 @@
 -- A runner file.
-use Rattle.std.specs.Prelude.{ℕ, ◌<◌, AllPairs, Bool, false, not, if◌then◌else◌, List, [], ◌∷◌, length, map, filter, find, count_by, codes, Option, Some, None, option_and_then, unwrap_or, ok_or, Ok, Err, ⊤}
+use Rattle.std.specs.Prelude.{ℕ, ◌<◌, AllPairs, Bool, false, not, if◌then◌else◌, List, length, map, filter, find, count_by, codes, Option, Some, None, option_and_then, unwrap_or, ok_or, Ok, Err, ⊤}
 use Rattle.serde_json.specs.Data.{Data, Items}
 use Rattle.serde_json.specs.Find.{as_array}
 use Rattle.json_reading.specs.Keys.{Member, object_of, json_of}

@@ -1,5 +1,5 @@
 -- The tree as a runner file spells it.
-use Rattle.std.specs.Prelude.{ℕ, List, [], ◌∷◌, codes, if◌then◌else◌, Option, Some, None, unwrap_or, Result, Ok, Err}
+use Rattle.std.specs.Prelude.{ℕ, List, [], ◌∷◌, codes, if◌then◌else◌, Option, Some, None, unwrap_or, Ok, Err}
 use Rattle.serde_json.specs.Data.{Data}
 use Rattle.json_reading.specs.Keys.{Member, member_at, is_doubled}
 use Rattle.json_reading.specs.Reading.{Read, ◌>>=◌, members_of, needed_at, optional_at, list_of}

@@ -1,6 +1,5 @@
 -- What a runner file sets up, read part by part.
 use Rattle.std.proofs.Common.{◌≡◌, ℕ, List, Option, Result, Ok, Err, subst, sym, refl}
-use Rattle.fed_script.specs.Script.{Course}
 use Rattle.fed_config.specs.declared.config.FederateConfig.{FederateConfig}
 use Rattle.fed_config.specs.Federate.{config_of}
 use Rattle.runner_config.specs.declared.reading.Entry.{Entry}
@@ -8,10 +7,10 @@ use Rattle.runner_config.specs.declared.reading.Runner.{Runner}
 use Rattle.scenario_reading.specs.declared.unread.Unread.{Unread}
 use Rattle.scenario_reading.specs.declared.scene.Setting.{Setting}
 use Rattle.scenario_reading.specs.declared.scene.Scenario.{Scenario}
-use Rattle.scenario_reading.specs.Order.{Order, ends, ◌>>=◌, for_each, bytes_of, Reads}
+use Rattle.scenario_reading.specs.Order.{ends, ◌>>=◌, for_each, bytes_of, Reads}
 use Rattle.scenario_reading.specs.Following.{Follows}
 use Rattle.scenario_reading.specs.Verdict.{Says}
-use Rattle.scenario_reading.specs.Fitting.{Scene, setting_seen, scenario_seen, setting_of, scenario_of}
+use Rattle.scenario_reading.specs.Fitting.{setting_seen, scenario_seen, setting_of, scenario_of}
 use Rattle.scenario_reading.specs.Reading.{path_told, config_told, named_by, runner_at, config_at, setting_at, scenario_at}
 use Rattle.scenario_reading.proofs.Orders.{reads_same, reads_then, follows_same}
 use Rattle.scenario_reading.proofs.Steps.{first_unread, then_follows, said_follows}

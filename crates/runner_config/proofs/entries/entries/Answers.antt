@@ -1,8 +1,7 @@
-use Rattle.std.proofs.Common.{◌≡◌, ◌∙◌, ℕ, ◌+◌, ◌<◌, ◌≤◌, suc, sym, ap, arith, Bool, false, ◌||◌, List, [], ◌∷◌, ◌++◌, length, drop, add-one}
+use Rattle.std.proofs.Common.{◌≡◌, ◌∙◌, ℕ, ◌+◌, ◌<◌, ◌≤◌, suc, sym, ap, arith, false, ◌||◌, List, [], ◌∷◌, ◌++◌, length, drop, add-one}
 use Rattle.serde_json.specs.declared.value.Value.{Value}
 use Rattle.serde_json.specs.View.{view, items_view}
 use Rattle.json_reading.proofs.Fronts.{drop-all}
-use Rattle.runner_config.specs.declared.entries.Listed.{Listed}
 use Rattle.runner_config.specs.Counts.{is_broker}
 use Rattle.runner_config.specs.Entries.{entries_from, AreInOrder}
 use Rattle.runner_config.proofs.Fronts.{with_front, kept, stopped, entries_end, next_value}

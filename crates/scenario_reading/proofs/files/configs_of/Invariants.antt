@@ -1,4 +1,4 @@
-use Rattle.std.proofs.Common.{◌≡◌, ℕ, List, Option, IfSome, drop, length}
+use Rattle.std.proofs.Common.{◌≡◌, ℕ, List, IfSome, drop, length}
 use Rattle.hel_lists.specs.Members.{Each}
 use Rattle.fed_script.specs.Script.{IsCourse}
 use Rattle.fed_config.specs.declared.config.FederateConfig.{FederateConfig}

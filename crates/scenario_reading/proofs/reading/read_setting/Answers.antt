@@ -1,4 +1,4 @@
-use Rattle.std.proofs.Common.{◌∙◌, ap, sym, length}
+use Rattle.std.proofs.Common.{◌∙◌}
 use Rattle.std.proofs.lemmas.Result.{err_from_is_err_and}
 use Rattle.scenario_reading.specs.Fitting.{setting_seen}
 use Rattle.scenario_reading.proofs.Steps.{said_counts}

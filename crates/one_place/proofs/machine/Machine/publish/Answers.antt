@@ -4,7 +4,6 @@ use Rattle.federation_plan.specs.Wires.{wires_of}
 use Rattle.machine_laws.specs.Machine.{State, member_at, items_in}
 use Rattle.machine_laws.specs.Plan.{Call, items_by}
 use Rattle.machine_laws.specs.Plan.Call.{publish}
-use Rattle.time_state.specs.Fed.{Fed}
 use Rattle.one_place.specs.declared.step.MachineStep.TheVariants.{Publish}
 use Rattle.one_place.specs.Machine.{Stage, refusal_at}
 use Rattle.one_place.specs.Members.{AreMade}

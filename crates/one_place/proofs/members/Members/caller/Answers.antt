@@ -1,8 +1,6 @@
-use Rattle.std.proofs.Common.{◌≡◌, ◌<◌, ap, arith, length, subst, sym}
-use Rattle.time_state.specs.Fed.{Fed, IsFed}
-use Rattle.machine_laws.specs.Machine.{State}
+use Rattle.std.proofs.Common.{subst, sym}
+use Rattle.time_state.specs.Fed.{IsFed}
 use Rattle.one_place.specs.declared.seat.Clock.{Clock}
-use Rattle.one_place.specs.Members.{joined}
 use Rattle.one_place.proofs.Puts.{clock_in}
 use Rattle.one_place.proofs.Seats.{clock_here, clocks_of, clocks_count}
 use Rattle.one_place.proofs.members.Members.caller.Goals as goal

@@ -1,9 +1,8 @@
-use Rattle.std.proofs.Common.{◌≡◌, ◌<◌, ◌+◌, ◌∙◌, true, ap, arith, refl, sym, subst}
-use Rattle.std.specs.Prelude.{nat_lt, ◌==◌, if◌then◌else◌}
+use Rattle.std.proofs.Common.{◌≡◌, ◌+◌, ◌∙◌, true, ap, arith, sym, subst}
+use Rattle.std.specs.Prelude.{nat_lt}
 use Rattle.std.proofs.lemmas.Bool.Decides.{nat_tests}
 use Rattle.helics_time.specs.Stamp.{At, IsDue, next_of}
-use Rattle.helics_time.specs.Time.{horizon}
-use Rattle.one_place.proofs.Events.{sends_low, sends_small, later_due, sent_due, own_due}
+use Rattle.one_place.proofs.Events.{sends_low, sends_small, sent_due, own_due}
 use Rattle.one_place.proofs.seat.Clock.due_at.Goals as goal
 
 pub overflow_add-result : goal.overflow_add-result

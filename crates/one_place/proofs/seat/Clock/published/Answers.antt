@@ -1,5 +1,4 @@
-use Rattle.std.proofs.Common.{◌≡◌, ◌<◌, ap, arith, length, subst, sym, List}
-use Rattle.std.specs.Prelude.{slice_index_or}
+use Rattle.std.proofs.Common.{◌<◌, ap, arith, length, subst, sym, List}
 use Rattle.hel_lists.specs.Members.{Each}
 use Rattle.hel_values.specs.declared.EndRef.{EndRef}
 use Rattle.one_place.proofs.Held.{each_at}

@@ -1,7 +1,7 @@
 use Rattle.std.proofs.Common.{◌≡◌, ◌∙◌, ℕ, ap}
 use Rattle.due_queue.specs.declared.item.Content.{Content}
 use Rattle.due_queue.specs.declared.item.Content.TheVariants.{Value as ValueContent}
-use Rattle.federation_plan.specs.Wires.{delay_between, leg_to}
+use Rattle.federation_plan.specs.Wires.{leg_to}
 use Rattle.machine_laws.specs.Plan.{due_of}
 use Rattle.one_place.proofs.seat.Clock.valued.Goals as goal
 

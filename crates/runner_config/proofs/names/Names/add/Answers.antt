@@ -1,4 +1,4 @@
-use Rattle.std.proofs.Common.{◌≡◌, ◌∙◌, ℕ, List, ap, not, map, string_bytes}
+use Rattle.std.proofs.Common.{◌∙◌, ℕ, List, ap, not, map, string_bytes}
 use Rattle.runner_config.specs.Names.{stands, with_name}
 use Rattle.runner_config.proofs.NameTables.{stands_by_key, insert_by_key}
 use Rattle.runner_config.proofs.names.Names.add.Goals as goal

@@ -1,4 +1,4 @@
-use Rattle.std.proofs.Common.{◌≡◌, ◌∙◌, ℕ, List, ap}
+use Rattle.std.proofs.Common.{◌∙◌, ℕ, List, ap}
 use Rattle.runner_config.specs.Names.{place_of}
 use Rattle.runner_config.proofs.NameTables.{place_by_key}
 use Rattle.runner_config.proofs.names.Names.place.Goals as goal

@@ -1,6 +1,6 @@
-use Rattle.std.proofs.Common.{◌≡◌, ◌∙◌, ℕ, ◌++◌, true, false, List, [], None, Some, ap, sym, option_map, arith, rules}
+use Rattle.std.proofs.Common.{◌≡◌, true, false, [], None, Some, rules}
 use Rattle.std.specs.Char.{encode_utf8}
-use Rattle.runner_config.specs.Splitting.{is_gap, is_quote, rest_of, behind, behind_gap}
+use Rattle.runner_config.specs.Splitting.{is_gap, is_quote}
 use Rattle.runner_config.proofs.Splits.{letter_ok, gap_ok, letter_char, wide_none, opens, parts}
 use Rattle.runner_config.proofs.splitting.SoFar.outside.Goals as goal
 
