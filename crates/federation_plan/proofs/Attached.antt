@@ -5,13 +5,13 @@ use Rattle.std.proofs.lemmas.Bool.{cases_Bool, cases_lt, true≢false, and_from,
 use Rattle.std.proofs.lemmas.List.Folds.{list_any_more}
 use Rattle.std.proofs.lemmas.Option.{slice_get-get_or, slice_get_past}
 use Rattle.interface_names.specs.declared.records.FederateRecord.{FederateRecord}
-use Rattle.hel_lists.proofs.Members.{filter_holds, filter_fails}
+use Rattle.hel_lists.proofs.Members.{filter_holds, filter_fails, at_in}
 use Rattle.std.proofs.Math.Seq.{get_or-append_seam}
 use Rattle.hel_lists.specs.Members.{IsIn}
 use Rattle.hel_values.specs.declared.EndRef.{EndRef}
 use Rattle.federation_plan.specs.Interfaces.{Interface, one_in, interfaces_in, interfaces_from, same_ref, is_ref, name_ref, refs_naming}
 use Rattle.federation_plan.specs.Tables.{entry, ends_with, with_last}
-use Rattle.federation_plan.proofs.Lists.{at_in, in_append}
+use Rattle.federation_plan.proofs.Lists.{in_append}
 use Rattle.federation_plan.proofs.Named.{rest_in, rest_from, none_in, none_from}
 
 -- a reference is the same as itself, and as no other

@@ -1,15 +1,9 @@
 -- Lists and their members.
-use Rattle.std.proofs.Common.{◌≡◌, ◌⊎◌, inl, inr, ℕ, zero, suc, ◌+◌, ◌<◌, ◌≤◌, List, [], ◌∷◌, ◌++◌, length, get_or, take, take_all, arith, refl, sym, ◌∙◌, ap, subst, Bool, true, false}
+use Rattle.std.proofs.Common.{◌≡◌, ◌⊎◌, inl, inr, ℕ, ◌+◌, ◌<◌, ◌≤◌, List, [], ◌∷◌, ◌++◌, length, get_or, take, take_all, arith, refl, sym, ◌∙◌, ap, subst, Bool, true, false}
 use Rattle.std.specs.List.{list_any}
 use Rattle.std.proofs.lemmas.Bool.{or_left, or_right, or_cases, true≢false, cases_lt}
 use Rattle.std.proofs.lemmas.List.{take_more, get_or_default, get_or_past}
 use Rattle.hel_lists.specs.Members.{IsIn, Each}
-
--- the item at a place is a member
-pub at_in : {A : Type 0} (xs : List A) (k : ℕ) (d : A) → k < length xs → IsIn (get_or xs k d) xs
-at_in [] k d below = absurd (omega arith)
-at_in (x ∷ xs) zero d below = inl refl
-at_in (x ∷ xs) (suc k) d below = inr (at_in xs k d (omega arith))
 
 -- a member of two lists, one after the other
 pub in_append : {A : Type 0} (xs ys : List A) (x : A) → IsIn x (xs ++ ys) → IsIn x xs ⊎ IsIn x ys

@@ -6,7 +6,7 @@ use Rattle.std.specs.Option.{option_map_or}
 use Rattle.std.proofs.lemmas.Bool.{cases_lt, true≢false, or_cases, or_left, or_right, and_from, and_parts, eqb-true}
 use Rattle.std.proofs.lemmas.List.{get_or_past, length-map}
 use Rattle.hel_lists.specs.Members.{IsIn, Each}
-use Rattle.hel_lists.proofs.Members.{in_map, in_filter}
+use Rattle.hel_lists.proofs.Members.{in_map, in_filter, at_in}
 use Rattle.helics_time.specs.Settings.{IsTerms}
 use Rattle.hel_values.specs.declared.EndRef.{EndRef}
 use Rattle.interface_names.specs.declared.records.InputRecord.{InputRecord}
@@ -27,7 +27,7 @@ use Rattle.federation_plan.specs.Interfaces.{Interface, same_ref, name_ref, name
 use Rattle.federation_plan.specs.Chains.{sources, destinations, filter_of, chain_on, source_chain, destination_chain, later_by, filtered_at, may_send, reroutes}
 use Rattle.federation_plan.specs.Depends.{reaches_by, reaches, by_value, by_message, depends}
 use Rattle.federation_plan.specs.Plan.{IsKept, targets_of}
-use Rattle.federation_plan.proofs.Lists.{at_in, any_to, any_from}
+use Rattle.federation_plan.proofs.Lists.{any_to, any_from}
 use Rattle.federation_plan.proofs.Named.{federate_within}
 use Rattle.federation_plan.proofs.Places.{stands_at, among_all, publications_known}
 use Rattle.federation_plan.proofs.Accepted.{IsAccepted, short}

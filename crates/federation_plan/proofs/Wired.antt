@@ -4,7 +4,7 @@ use Rattle.std.specs.Prelude.{option_to_list, option_and_then, map}
 use Rattle.std.proofs.lemmas.Bool.{cases_Bool, cases_eq, cases_lt}
 use Rattle.std.proofs.lemmas.Option.{slice_get-get_or, slice_get_past}
 use Rattle.hel_lists.specs.Members.{IsIn, Each}
-use Rattle.hel_lists.proofs.Members.{in_map}
+use Rattle.hel_lists.proofs.Members.{in_map, at_in}
 use Rattle.helics_time.specs.Settings.{Terms, IsTerms}
 use Rattle.hel_values.specs.declared.EndRef.{EndRef}
 use Rattle.hel_values.specs.declared.Value.{Value}
@@ -32,7 +32,6 @@ use Rattle.federation_plan.specs.Tree.{parents_of}
 use Rattle.federation_plan.specs.Plan.{Federation, IsFederation, targets_of, core_at}
 use Rattle.federation_plan.specs.Wires.{delay_between, kind_objection, leg_to, endpoint_in, name_meant, destined, message_leg, message_to, message_by, objection, send_objection, target_objection, wires_of}
 use Rattle.federation_plan.specs.Laws.{IsLeg, IsSend, PlanLaws}
-use Rattle.federation_plan.proofs.Lists.{at_in}
 use Rattle.federation_plan.proofs.Named.{federate_within}
 use Rattle.federation_plan.proofs.Places.{endpoints_known, publications_known}
 use Rattle.federation_plan.proofs.Accepted.{IsAccepted, accepted, both_none}

@@ -1,5 +1,5 @@
 -- The queues of all federates, one after another, are the machine's one list of items.
-use Rattle.std.proofs.Common.{◌≡◌, ◌≢◌, ◌⊎◌, inl, inr, ℕ, zero, suc, ◌+◌, ◌<◌, ◌≤◌, Bool, true, false, not, List, [], ◌∷◌, ◌++◌, length, refl, sym, ◌∙◌, ap, subst, arith}
+use Rattle.std.proofs.Common.{◌≡◌, ◌≢◌, inl, inr, ℕ, zero, suc, ◌+◌, ◌<◌, ◌≤◌, Bool, true, false, not, List, [], ◌∷◌, ◌++◌, length, refl, sym, ◌∙◌, ap, subst, arith}
 use Rattle.std.specs.Prelude.{slice_set}
 use Rattle.std.specs.List.{filter}
 use Rattle.std.proofs.lemmas.Bool.{cases_Bool, eq-eqb, ne_eqb}
@@ -12,6 +12,7 @@ use Rattle.due_queue.specs.Order.{comes_before, is_sooner, insert, enqueue}
 use Rattle.due_queue.proofs.Order.{one_target, insert_first, insert_later}
 use Rattle.due_queue.proofs.Sorted.{insert_by_first, insert_by_later, insert_by_front}
 use Rattle.machine_laws.specs.Machine.{is_handed, is_left}
+use Rattle.federation_plan.proofs.Lists.{in_append}
 use Rattle.one_place.specs.declared.seat.Clock.{Clock}
 use Rattle.interface_names.specs.declared.records.FederateRecord.{FederateRecord}
 use Rattle.one_place.specs.Members.{AreQueued, new_clocks, clock_at, gathered}
@@ -25,19 +26,11 @@ greater_later : (i j : Parcel) → j.target < i.target → comes_before i j ≡ 
 unfolding comes_before
 greater_later i j less = grind (arith, nat_tests)
 
--- a member of two lists, one behind the other
-in_either : (xs ys : List Parcel) (x : Parcel) → IsIn x (xs ++ ys) → IsIn x xs ⊎ IsIn x ys
-in_either [] ys x among = inr among
-in_either (y ∷ xs) ys x among = elim among [
-  | inl here ↦ inl (inl here)
-  | inr later ↦ elim (in_either xs ys x later) [ inl first ↦ inl (inr first) | inr second ↦ inr second ]
-]
-
 -- the items in queues from that of federate f on are to f or to greater federates
 gathered_from : (f : ℕ) (cs : List Clock) (i : Parcel) → AreQueued f cs → IsIn i (gathered cs) → f ≤ i.target
 unfolding gathered
 gathered_from f [] i queued among = absurd among
-gathered_from f (c ∷ cs) i queued among = elim (in_either c.queue (gathered cs) i among) [
+gathered_from f (c ∷ cs) i queued among = elim (in_append c.queue (gathered cs) i among) [
   | inl first ↦ let own : i.target ≡ f = queued.0 i first in omega (arith, own)
   | inr second ↦ let more = gathered_from (suc f) cs i queued.1 second in omega (arith, more)
 ]
@@ -183,15 +176,6 @@ unfolding gathered
 gathered_same t [] c same = refl
 gathered_same zero (x ∷ cs) c same = ap (λ (l : List Parcel). l ++ gathered cs) same
 gathered_same (suc t) (x ∷ cs) c same = ap (λ (l : List Parcel). x.queue ++ l) (gathered_same t cs c same)
-
--- a member of one list is one of it with another behind it or ahead of it
-pub in_front : (xs ys : List Parcel) (i : Parcel) → IsIn i xs → IsIn i (xs ++ ys)
-in_front [] ys i among = absurd among
-in_front (x ∷ xs) ys i among = elim among [ inl here ↦ inl here | inr later ↦ inr (in_front xs ys i later) ]
-
-pub in_behind : (xs ys : List Parcel) (i : Parcel) → IsIn i ys → IsIn i (xs ++ ys)
-in_behind [] ys i among = among
-in_behind (x ∷ xs) ys i among = inr (in_behind xs ys i among)
 
 -- no federate has items at the beginning
 pub none_gathered : (feds : List FederateRecord) → gathered (new_clocks feds) ≡ []

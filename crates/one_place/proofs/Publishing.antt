@@ -16,7 +16,8 @@ use Rattle.machine_laws.specs.declared.logs.FedLog.{FedLog}
 use Rattle.machine_laws.specs.Machine.{Member, State, blank_member, member_at, limit_refusal, with_member, called_member, end_of}
 use Rattle.one_place.specs.declared.seat.Clock.{Clock}
 use Rattle.one_place.specs.Members.{member_of, IsClock, AreSeats, AreClocks, AreQueued, AreKept, AreMade, joined, gathered, state_of, blank_clock, clock_at, log_at, with_queue, taken_back, called_at, put_in, put_all}
-use Rattle.one_place.proofs.Gathered.{gathered_put, gathered_same, queued_set, own_queue, in_front, in_behind, filter_all}
+use Rattle.federation_plan.proofs.Lists.{append_left, append_right}
+use Rattle.one_place.proofs.Gathered.{gathered_put, gathered_same, queued_set, own_queue, filter_all}
 use Rattle.one_place.proofs.Events.{sends_few}
 use Rattle.one_place.proofs.Puts.{clock_in, put_length}
 use Rattle.one_place.proofs.Seats.{clocks_of, joined_length, member_is}
@@ -165,9 +166,9 @@ unfolding gathered
 new_from cs f [] ls seats numbered = refl
 new_from cs f (d ∷ ds) [] seats numbered = absurd seats
 new_from cs f (d ∷ ds) (l ∷ ls) seats numbered =
-    let queue : filter (is_made_otherwise f (clock_at cs f).seq) d.queue ≡ d.queue = none_made cs f d.queue (λ i among. numbered i (in_front d.queue (gathered ds) i among)) in
+    let queue : filter (is_made_otherwise f (clock_at cs f).seq) d.queue ≡ d.queue = none_made cs f d.queue (λ i among. numbered i (append_left d.queue (gathered ds) i among)) in
     let own : taken_back f (clock_at cs f).seq d ≡ d = ap (with_queue d) queue ∙ (λ k. record d { event = sym seats.0.clock.event k }) in
-    (λ k. own k ∷ new_from cs f ds ls seats.1 (λ i among. numbered i (in_behind d.queue (gathered ds) i among)) k)
+    (λ k. own k ∷ new_from cs f ds ls seats.1 (λ i among. numbered i (append_right d.queue (gathered ds) i among)) k)
 
 pub nothing_made : (cs : List Clock) (ls : List FedLog) (f : ℕ) → AreKept cs ls → map (taken_back f (clock_at cs f).seq) cs ≡ cs
 nothing_made cs ls f kept = new_from cs f cs ls kept.seats kept.numbered

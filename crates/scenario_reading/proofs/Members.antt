@@ -1,14 +1,6 @@
 -- What holds of each member of a list.
-use Rattle.std.proofs.Common.{List, [], ◌∷◌, ◌++◌, map, sym, subst, inl, inr, refl}
+use Rattle.std.proofs.Common.{List, [], ◌∷◌, map, sym, subst, inl, inr, refl}
 use Rattle.hel_lists.specs.Members.{Each}
-
--- what holds of each, and of one more
-pub each_with : {A : Type 0} (P : A → Type 0) (xs : List A) (y : A) → Each P xs → P y → Each P (xs ++ y ∷ [])
-each_with P [] y each last x among = elim among [ inl here ↦ subst P (sym here) last | inr none ↦ absurd none ]
-each_with P (z ∷ xs) y each last x among = elim among [
-  | inl here ↦ each x (inl here)
-  | inr later ↦ each_with P xs y (λ x in_xs. each x (inr in_xs)) last x later
-]
 
 -- what holds of what is told of each
 pub each_map : {A B : Type 0} (P : B → Type 0) (f : A → B) (xs : List A) → Each (λ x. P (f x)) xs → Each P (map f xs)

@@ -1,5 +1,5 @@
 use Rattle.std.proofs.Common.{arith}
-use Rattle.federation_plan.proofs.Lists.{at_in}
+use Rattle.hel_lists.proofs.Members.{at_in}
 use Rattle.federation_plan.proofs.chains.chain_of.Goals as goal
 
 pub filter_at-requires : goal.filter_at-requires

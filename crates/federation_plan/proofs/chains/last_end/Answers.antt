@@ -3,7 +3,7 @@ use Rattle.std.specs.HashMap.{get_by_text}
 use Rattle.interface_names.specs.Filter.{FilterTerms}
 use Rattle.message_filters.specs.Filter.{reroute_of}
 use Rattle.federation_plan.specs.Chains.{filter_of}
-use Rattle.federation_plan.proofs.Lists.{at_in}
+use Rattle.hel_lists.proofs.Members.{at_in}
 use Rattle.federation_plan.proofs.Reroutes.{refs_more}
 use Rattle.federation_plan.proofs.chains.last_end.Goals as goal
 

@@ -1,6 +1,7 @@
 use Rattle.std.proofs.Common.{arith, refl, sym}
 use Rattle.std.proofs.lemmas.Bool.{true≢false}
-use Rattle.federation_plan.proofs.Lists.{at_in, each_more}
+use Rattle.hel_lists.proofs.Members.{at_in}
+use Rattle.federation_plan.proofs.Lists.{each_more}
 use Rattle.federation_plan.proofs.tree.are_cores.Goals as goal
 
 pub loop-core-preserved : goal.loop-core-preserved

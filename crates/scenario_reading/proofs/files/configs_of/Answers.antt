@@ -3,7 +3,7 @@ use Rattle.std.proofs.lemmas.Result.{err_from_is_err_and}
 use Rattle.fed_script.specs.Script.{IsCourse}
 use Rattle.fed_config.specs.declared.config.FederateConfig.{FederateConfig}
 use Rattle.scenario_reading.proofs.ForEach.{one_read, one_unread, all_read}
-use Rattle.scenario_reading.proofs.Members.{each_with}
+use Rattle.hel_lists.proofs.Members.{each_pushed}
 use Rattle.scenario_reading.proofs.files.configs_of.Goals as goal
 
 pub returns-in_err-config-clause-follows : goal.returns-in_err-config-clause-follows
@@ -20,7 +20,7 @@ loop-entry-preserved g c =
       continues = rw c.in_ok-push.ensures.ok
           (one_read _ _ _ c.args.entries.now c.loop-entry.entry-index c.entry-item.result _ _ _ c.loop-entry-test.true c.entry-item.is kept.same kept.continues c.in_ok-config.ensures.follows);
       each = rw (c.in_ok-push.ensures.ok, length-append) (omega arith);
-      rules = rw c.in_ok-push.ensures.ok (each_with (λ (f : FederateConfig). IfSome f.script IsCourse) _ _ kept.rules c.in_ok-config.ensures.rules);
+      rules = rw c.in_ok-push.ensures.ok (each_pushed (λ (f : FederateConfig). IfSome f.script IsCourse) _ _ kept.rules c.in_ok-config.ensures.rules);
       quiet = search rules;
       same = search rules;
     }

@@ -1,7 +1,7 @@
 use Rattle.std.proofs.Common.{ℕ, List, get_or, sym, subst}
 use Rattle.std.specs.List.Sorted.{IsStrictlyIncreasing}
 use Rattle.hel_lists.specs.Members.{IsIn}
-use Rattle.federation_plan.proofs.Lists.{at_in}
+use Rattle.hel_lists.proofs.Members.{at_in}
 use Rattle.federation_plan.proofs.Waiting.{ancestor_within, left_least}
 use Rattle.federation_plan.proofs.plan.Plan.partner.Goals as goal
 

@@ -3,7 +3,7 @@ use Rattle.std.proofs.lemmas.List.{length-map}
 use Rattle.tree_facts.specs.Tree.{IsTree}
 use Rattle.federation_plan.specs.Plan.{Federation, core_at}
 use Rattle.federation_plan.specs.Tree.{above}
-use Rattle.federation_plan.proofs.Lists.{at_in}
+use Rattle.hel_lists.proofs.Members.{at_in}
 use Rattle.federation_plan.proofs.Trees.{tree_is, core_known}
 use Rattle.federation_plan.proofs.plan.Plan.route.Goals as goal
 
