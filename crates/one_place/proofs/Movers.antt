@@ -1,7 +1,8 @@
 -- The federates that may move, one after another.
-use Rattle.std.proofs.Common.{◌≡◌, ◌+◌, ◌-◌, ◌<◌, ◌≤◌, ℕ, zero, suc, Bool, true, false, List, [], ◌∷◌, length, slice_get, Option, Some, None, refl, sym, ◌∙◌, ap, arith}
+use Rattle.std.proofs.Common.{◌≡◌, inl, inr, ◌+◌, ◌-◌, ◌<◌, ◌≤◌, ℕ, zero, suc, Bool, true, false, List, [], ◌∷◌, length, slice_get, Option, Some, None, refl, sym, ◌∙◌, ap, arith}
 use Rattle.std.specs.Prelude.{cond}
 use Rattle.std.specs.List.{filter, range_with_len}
+use Rattle.std.proofs.lemmas.Bool.{cases_lt}
 
 -- the numbers from f on, so many, that pass a test
 abbrev pub passing : (ℕ → Bool) → ℕ → ℕ → List ℕ
@@ -71,3 +72,12 @@ pub found_none : (test : ℕ → Bool) (f n left : ℕ) (found : Option ℕ) →
 found_none test f n left found low high at =
     let same : f ≡ n = omega (arith, low, high) in
     sym (ap (λ (l : List ℕ). slice_get l left) (ap (λ k. passing test k (n - k)) same ∙ passing_end test n)) ∙ at
+
+-- where none before f passes a test, and f doesn't, none before the next one does
+pub none_more : (test : ℕ → Bool) (f : ℕ) → ((g : ℕ) → g < f → test g ≡ false) → test f ≡ false → (g : ℕ) → g < f + 1 → test g ≡ false
+none_more test f none fails g less = elim (cases_lt g f) [
+  | inl before ↦ none g before
+  | inr past ↦
+      let same : g ≡ f = omega (arith, less, past) in
+      ap test same ∙ fails
+]
