@@ -181,7 +181,8 @@ fn played_by_steps(alloc: Global, rows: &[Row], speeches: &[Speech]) -> Result<M
     let mut machine = open(alloc, plan_of(alloc, rows)?)?;
     go(&mut machine, MachineStep::Begin)?;
     for (f, speech) in speeches.iter().enumerate().rev() {
-        play(alloc, &mut machine, f as u16, speech.1)?;
+        let f = u16::try_from(f).ok().ok_or("number")?;
+        play(alloc, &mut machine, f, speech.1)?;
     }
     Ok(machine)
 }

@@ -55,11 +55,13 @@ fn step_of(step: Do) -> MachineStep {
 }
 
 fn machine_after(alloc: Global, rows: &[Row], steps: &[Do]) -> Result<Machine, Fail> {
-    let mut machine = open(alloc, plan_of(alloc, rows)?)?;
+    let plan = plan_of(alloc, rows)?;
+    let count = plan.count();
+    let mut machine = open(alloc, plan)?;
     go(&mut machine, MachineStep::Begin)?;
-    for (f, _) in rows.iter().enumerate() {
-        go(&mut machine, MachineStep::Enter(f as u16))?;
-        go(&mut machine, MachineStep::Grant(f as u16))?;
+    for f in 0..count {
+        go(&mut machine, MachineStep::Enter(f))?;
+        go(&mut machine, MachineStep::Grant(f))?;
     }
     for step in steps {
         go(&mut machine, step_of(*step))?;
