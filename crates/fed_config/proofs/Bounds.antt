@@ -5,12 +5,12 @@ use Rattle.std.proofs.lemmas.Bool.{ltb-false}
 use Rattle.std.proofs.lemmas.Grind.{common_steps}
 use Rattle.serde_json.specs.Data.{Data, Items, no_items, item}
 use Rattle.serde_json.specs.Find.{as_array}
-use Rattle.helics_time.specs.Time.{max_time}
+use Rattle.helics_time.specs.Time.{max_time, longest_span}
 use Rattle.json_reading.specs.Keys.{Member, member_at}
 use Rattle.json_reading.specs.Reading.{Read, ◌>>=◌, here, under, at_optional, at_needed, needed_at, each_from, item_count, few_items, list_up_to}
 use Rattle.json_reading.specs.declared.refusal.ConfigCause.TheVariants.{OutOfRange}
 use Rattle.json_reading.specs.Leaves.{at_most, time_up_to, whole_between}
-use Rattle.fed_config.specs.Federate.{longest_setting, most_interfaces, setting_at, iterations_at, list_at}
+use Rattle.fed_config.specs.Federate.{most_items, setting_at, iterations_at, list_at}
 
 most_within : (most n t : ℕ) → at_most most n ≡ Ok t → t ≤ most
 most_within most n t e = grind (arith, common_steps)
@@ -31,9 +31,9 @@ at_member P read default holds less (Some m) x e = go (read m.1) refl e
     go (Ok held) is e = let same : held ≡ x = cc in subst P same (holds m.1 held is)
     go (Err refusal) is e = cc
 
-pub setting_within : (key : List ℕ) (members : List Member) (t : ℕ) → setting_at key members ≡ Ok t → t ≤ longest_setting
+pub setting_within : (key : List ℕ) (members : List Member) (t : ℕ) → setting_at key members ≡ Ok t → t ≤ longest_span
 setting_within key members t e =
-    at_member (λ (n : ℕ). n ≤ longest_setting) (time_up_to longest_setting) 0 (time_within longest_setting) (omega arith) (member_at key members) t e
+    at_member (λ (n : ℕ). n ≤ longest_span) (time_up_to longest_span) 0 (time_within longest_span) (omega arith) (member_at key members) t e
 
 pub iterations_within : (key : List ℕ) (members : List Member) (n : ℕ) → iterations_at key members ≡ Ok n → (1 ≤ n) × (n ≤ 10000)
 iterations_within key members n e =
@@ -77,6 +77,6 @@ few_within most read d xs e = go (as_array d) e
         test false over e = omega (arith, each_length read 0 items xs e, ltb-false most (item_count items) over)
 
 pub list_within : {A : Type 0} (key : List ℕ) (read : Data → Read A) (members : List Member) (xs : List A)
-    → list_at key read members ≡ Ok xs → length xs ≤ most_interfaces
+    → list_at key read members ≡ Ok xs → length xs ≤ most_items
 list_within key read members xs e =
-    at_member (λ ys. length ys ≤ most_interfaces) (list_up_to most_interfaces read) [] (few_within most_interfaces read) (omega arith) (member_at key members) xs e
+    at_member (λ ys. length ys ≤ most_items) (list_up_to most_items read) [] (few_within most_items read) (omega arith) (member_at key members) xs e

@@ -1,6 +1,7 @@
 -- A federate file.
-use Rattle.std.specs.Prelude.{◌≡◌, ℕ, ◌^◌, ◌⊎◌, false, List, [], ◌∷◌, ◌++◌, codes, Option, Some, None, is_some, unwrap_or, Result, Ok, Err}
+use Rattle.std.specs.Prelude.{◌≡◌, ℕ, ◌⊎◌, false, List, [], ◌∷◌, ◌++◌, codes, Option, Some, None, is_some, unwrap_or, Result, Ok, Err}
 use Rattle.serde_json.specs.Data.{Data}
+use Rattle.helics_time.specs.Time.{longest_span}
 use Rattle.helics_time.specs.Settings.{Terms}
 use Rattle.interface_names.specs.declared.records.InputRecord.{InputRecord}
 use Rattle.interface_names.specs.declared.records.FederateRecord.{FederateRecord}
@@ -16,23 +17,19 @@ use Rattle.fed_config.specs.declared.config.FederateConfig.{FederateConfig}
 
 -- ---- limits
 
--- the longest time of the settings, in nanoseconds
-abbrev pub longest_setting : ℕ
-longest_setting = 2 ^ 56
-
 -- the most bytes of a federate's name
-abbrev pub longest_name : ℕ
-longest_name = 1024
+abbrev pub longest_federate_name : ℕ
+longest_federate_name = 1024
 
--- the most interfaces of a list
-abbrev pub most_interfaces : ℕ
-most_interfaces = 32768
+-- the most items of a list of interfaces
+abbrev pub most_items : ℕ
+most_items = 32768
 
 -- ---- the parts of a file
 
 -- a time of the settings, and 0 without it
 abbrev pub setting_at : List ℕ → List Member → Read ℕ
-setting_at key members = optional_at key (time_up_to longest_setting) members >>= λ found. Ok (unwrap_or found 0)
+setting_at key members = optional_at key (time_up_to longest_span) members >>= λ found. Ok (unwrap_or found 0)
 
 abbrev pub iterations_at : List ℕ → List Member → Read ℕ
 iterations_at key members = optional_at key (whole_between 1 10000) members >>= λ found. Ok (unwrap_or found 50)
@@ -60,7 +57,7 @@ settings_of members = do
 
 -- the list at a key, and no items without it
 abbrev pub list_at : {A : Type 0} → List ℕ → (Data → Read A) → List Member → Read (List A)
-list_at key read members = optional_at key (list_up_to most_interfaces read) members >>= λ found. Ok (unwrap_or found [])
+list_at key read members = optional_at key (list_up_to most_items read) members >>= λ found. Ok (unwrap_or found [])
 
 -- subscriptions come first among the inputs
 unfoldable pub inputs_of : List Member → Read (List InputRecord)
@@ -99,7 +96,7 @@ federate_keys =
 unfoldable pub federate_of : Data → Read FederateConfig
 federate_of value = do
   members ← members_of federate_keys value
-  name ← optional_at (codes "name") (text_up_to longest_name) members
+  name ← optional_at (codes "name") (text_up_to longest_federate_name) members
   federate ← record_of (unwrap_or name []) members
   script ← script_of (known_of federate) members
   Ok (record { federate = federate; named = is_some name; script = script })

@@ -1,11 +1,12 @@
 // A federate file.
 ghost use Rattle.std.specs.Prelude.{◌≡◌, ◌≢◌, ◌⊎◌, ◌≤◌, ◌^◌, ◌++◌, ◌*◌, IfOk, IfSome, codes, length};
 ghost use Rattle.serde_json.specs.View.{view};
+ghost use Rattle.helics_time.specs.Time.{longest_span};
 ghost use Rattle.fed_script.specs.Script.{IsCourse};
 ghost use Rattle.json_reading.specs.Keys.{pairs_of};
 ghost use Rattle.json_reading.specs.Reading.{Gives, no_memory, refused};
 ghost use Rattle.fed_config.specs.Names.{HasFew};
-ghost use Rattle.fed_config.specs.Federate.{longest_setting, most_interfaces, setting_at, iterations_at, settings_of, inputs_of, list_at, record_of, federate_of, whole_path, config_of, Answers};
+ghost use Rattle.fed_config.specs.Federate.{most_items, setting_at, iterations_at, settings_of, inputs_of, list_at, record_of, federate_of, whole_path, config_of, Answers};
 
 use crate::filters::FilterReader;
 use crate::interfaces::{EndpointReader, InputReader, PublicationReader, SubscriptionReader};
@@ -147,7 +148,7 @@ fn list<R: Reader + Drop>(
 where
     R::Output: Drop,
     ensures read { Gives (λ xs. xs) result (list_at key.now (R.reads reader) (pairs_of object.now.entries)) }
-    ensures few { IfOk result (λ xs. length xs ≤ most_interfaces) }
+    ensures few { IfOk result (λ xs. length xs ≤ most_items) }
 {
     let list = ListUpTo {
         reader,
@@ -161,7 +162,7 @@ where
 #[tactic(auto, unfolding(crate::specs::Federate::inputs_of))]
 fn inputs(alloc: Global, object: &Object) -> Result<Items<InputRecord>, ConfigRefusal>
     ensures read { Gives (λ xs. xs) result (inputs_of (pairs_of object.now.entries)) }
-    ensures few { IfOk result (λ xs. length xs ≤ 2 * most_interfaces) }
+    ensures few { IfOk result (λ xs. length xs ≤ 2 * most_items) }
 {
     let subscriptions = list(alloc, object, "subscriptions", SubscriptionReader)?;
     let inputs = list(alloc, object, "inputs", InputReader)?;
@@ -210,7 +211,7 @@ fn settings(alloc: Global, object: &Object) -> Result<Settings, ConfigRefusal>
 #[tactic(auto, using(crate::proofs::Bounds::setting_within))]
 fn setting(alloc: Global, object: &Object, key: &str) -> Result<u64, ConfigRefusal>
     ensures read { Gives (λ t. t) result (setting_at key.now (pairs_of object.now.entries)) }
-    ensures within { IfOk result (λ t. t ≤ longest_setting) }
+    ensures within { IfOk result (λ t. t ≤ longest_span) }
 {
     let time = optional(alloc, object, key, &SETTING)?;
     Ok(time.unwrap_or(0))

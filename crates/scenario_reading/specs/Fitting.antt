@@ -1,14 +1,10 @@
 -- What the files of a federation set up, and what speaks against it, first to last: its tree, its names, its plan,
 -- and for a run that a federate has no script.
-use Rattle.std.specs.Prelude.{ℕ, Bool, true, false, ◌||◌, nat_lt, if◌then◌else◌, List, [], ◌∷◌, ◌++◌, map, count_by, slice_get, Option, Some, None, Ok}
+use Rattle.std.specs.Prelude.{ℕ, Bool, true, false, ◌||◌, nat_lt, if◌then◌else◌, List, [], ◌∷◌, ◌++◌, map, count_by, Option, Some, None, Ok}
 use Rattle.std.specs.List.{list_any, filter_map, position_from}
-use Rattle.std.specs.Option.{is_none, option_map, option_map_or, option_or, option_and_then}
-use Rattle.hel_values.specs.declared.EndRef.{EndRef}
+use Rattle.std.specs.Option.{is_none, option_map, option_or, option_and_then}
 use Rattle.fed_script.specs.Script.{Course}
-use Rattle.interface_names.specs.declared.records.PubRecord.{PubRecord}
-use Rattle.interface_names.specs.declared.records.EndRecord.{EndRecord}
 use Rattle.interface_names.specs.declared.records.FederateRecord.{FederateRecord}
-use Rattle.interface_names.specs.Names.{global_name_of}
 use Rattle.interface_names.specs.Registry.{refusal_of}
 use Rattle.json_reading.specs.Reading.{◌>>=◌}
 use Rattle.fed_config.specs.declared.config.FederateConfig.{FederateConfig}
@@ -16,6 +12,7 @@ use Rattle.federation_plan.specs.declared.refusal.PlanRefusal.{PlanRefusal}
 use Rattle.federation_plan.specs.declared.tree.NodeKind.{NodeKind}
 use Rattle.federation_plan.specs.declared.tree.NodeRow.{NodeRow}
 use Rattle.federation_plan.specs.declared.tree.Tree.{Tree}
+use Rattle.federation_plan.specs.Interfaces.{federate_at, publication_interface, endpoint_at, pub_name, end_name}
 use Rattle.federation_plan.specs.Refusal as plan
 use Rattle.runner_config.specs.declared.reading.Entry.{Entry}
 use Rattle.runner_config.specs.declared.reading.Runner.{Runner}
@@ -77,32 +74,16 @@ names_refusal earlier (f ∷ feds) = option_or (join_refusal earlier f) (names_r
 
 -- ---- the plan
 
--- what the federation calls the federate, publication and endpoint of these numbers; nothing where there is none
-abbrev pub name_in : Option FederateRecord → List ℕ
-name_in federate = option_map_or (λ (f : FederateRecord). f.name) federate []
-
 abbrev pub federate_name : List FederateRecord → ℕ → List ℕ
-federate_name feds f = name_in (slice_get feds f)
-
-abbrev pub publication_in : FederateRecord → ℕ → List ℕ
-publication_in f n = option_map_or (λ (p : PubRecord). global_name_of f.name p.name p.global) (slice_get f.publications n) []
-
-abbrev pub endpoint_in : FederateRecord → ℕ → List ℕ
-endpoint_in f n = option_map_or (λ (e : EndRecord). global_name_of f.name e.name e.global) (slice_get f.endpoints n) []
-
-abbrev pub publication_name : List FederateRecord → EndRef → List ℕ
-publication_name feds p = option_map_or (λ f. publication_in f p.index) (slice_get feds p.fed) []
-
-abbrev pub endpoint_name : List FederateRecord → EndRef → List ℕ
-endpoint_name feds e = option_map_or (λ f. endpoint_in f e.index) (slice_get feds e.fed) []
+federate_name feds f = (federate_at feds f).name
 
 -- a reason against a plan, told by names
 abbrev pub plan_told : List FederateRecord → PlanRefusal → Option Refusal
 plan_told feds PlanRefusal.NoFederates = Some Refusal.NoFederates
 plan_told feds (PlanRefusal.MissingRequired f name) = Some (Refusal.MissingRequired (federate_name feds f) name)
-plan_told feds (PlanRefusal.KindMismatch f input p) = Some (Refusal.KindMismatch (federate_name feds f) (publication_name feds p))
+plan_told feds (PlanRefusal.KindMismatch f input p) = Some (Refusal.KindMismatch (federate_name feds f) (pub_name (publication_interface feds p)))
 plan_told feds (PlanRefusal.FilterTarget name) = Some (Refusal.FilterTarget name)
-plan_told feds (PlanRefusal.ChainTooLong e) = Some (Refusal.ChainTooLong (endpoint_name feds e))
+plan_told feds (PlanRefusal.ChainTooLong e) = Some (Refusal.ChainTooLong (end_name (endpoint_at feds e)))
 plan_told feds PlanRefusal.OutOfMemory = None
 
 abbrev pub plan_refusal : List FederateRecord → Option Refusal

@@ -1,13 +1,14 @@
 //! What the files of a federation set up, and what speaks against it (docs/FORMATS.md, Order of reading).
-ghost use Rattle.std.specs.Prelude.{◌≡◌, [], ◌∷◌, ◌++◌, length, count_by, slice_get, IfOk, IfSome, OnOk};
+ghost use Rattle.std.specs.Prelude.{◌≡◌, [], ◌∷◌, ◌++◌, length, count_by, IfOk, IfSome, OnOk};
 ghost use Rattle.std.specs.List.{list_any, position_from};
-ghost use Rattle.std.specs.Option.{is_none, option_copied};
+ghost use Rattle.std.specs.Option.{is_none};
 ghost use Rattle.hel_lists.specs.Members.{Each};
 ghost use Rattle.fed_script.specs.Script.{IsCourse};
 ghost use Rattle.federation_plan.specs.Tree.{IsValid};
+ghost use Rattle.federation_plan.specs.Interfaces.{publication_at, publication_interface, endpoint_at, pub_name, end_name};
 ghost use Rattle.runner_config.specs.Runner.{tree_with};
 ghost use Rattle.scenario_reading.specs.Verdict.{Says, unless_refused, unrefused, nothing};
-ghost use Rattle.scenario_reading.specs.Fitting.{setting_seen, scenario_seen, federates_of, scripts_of, cores_of, is_broker, is_core, is_deep, tree_refusal, join_refusal, names_refusal, name_in, publication_in, endpoint_in, publication_name, endpoint_name, plan_told, plan_refusal, script_refusal, scripts_in, setting_of, scenario_of};
+ghost use Rattle.scenario_reading.specs.Fitting.{setting_seen, scenario_seen, federates_of, scripts_of, cores_of, is_broker, is_core, is_deep, tree_refusal, join_refusal, names_refusal, federate_name, plan_told, plan_refusal, script_refusal, scripts_in, setting_of, scenario_of};
 
 use crate::refusal::Refusal;
 use crate::scene::{Scenario, Setting};
@@ -104,72 +105,67 @@ fn join(alloc: Global, registry: &mut Registry, federate: FederateRecord) -> Res
 
 // ---- the plan
 
-fn federate_in(registry: &Registry, f: u16) -> Option<&FederateRecord>
-    ensures { option_copied result ≡ slice_get registry.now f }
+// The name of a federate, and a blank one where there is none of this number.
+fn federate_name(registry: &Registry, f: u16) -> &str
+    ensures { result.now ≡ federate_name registry.now f }
 {
     if usize::from(f) < registry.len() {
-        Some(registry.federate(f))
+        registry.federate(f).name.as_str()
     } else {
-        None
+        ""
     }
 }
 
-// The name of a federate, and an empty one where there is none.
-fn name_of(alloc: Global, federate: Option<&FederateRecord>) -> Result<Text, OutOfMemory>
-    ensures { IfOk result (λ name. name ≡ name_in (option_copied federate.entry)) }
+// The name that its federate gave a publication, and whether it is global; blank and not where there is none.
+fn publication_called(registry: &Registry, at: EndRef) -> (&str, bool)
+    ensures name { result.0.now ≡ (publication_at registry.now at).name }
+    ensures global { result.1 ≡ (publication_at registry.now at).global }
 {
-    match federate {
-        Some(federate) => Ok(federate.name.copy(alloc)?),
-        None => Ok(Text::new(alloc)),
+    if usize::from(at.fed) >= registry.len() {
+        return ("", false);
+    }
+    let publications = registry.federate(at.fed).publications.as_slice();
+    match publications.get(usize::from(at.index)) {
+        Some(publication) => (publication.name.as_str(), publication.global),
+        None => ("", false),
     }
 }
 
-// What the federation calls a publication, and nothing where there is none of this number.
-fn publication_in(alloc: Global, federate: &FederateRecord, index: u16) -> Result<Text, OutOfMemory>
-    ensures { IfOk result (λ name. name ≡ publication_in federate.now index) }
+// The same of an endpoint.
+fn endpoint_called(registry: &Registry, at: EndRef) -> (&str, bool)
+    ensures name { result.0.now ≡ (endpoint_at registry.now at).item.name }
+    ensures global { result.1 ≡ (endpoint_at registry.now at).item.global }
 {
-    match federate.publications.get(usize::from(index)) {
-        Some(publication) => {
-            let name = publication.name.as_str();
-            global_name(alloc, federate.name.as_str(), name, publication.global)
-        }
-        None => Ok(Text::new(alloc)),
+    if usize::from(at.fed) >= registry.len() {
+        return ("", false);
+    }
+    let endpoints = registry.federate(at.fed).endpoints.as_slice();
+    match endpoints.get(usize::from(at.index)) {
+        Some(endpoint) => (endpoint.name.as_str(), endpoint.global),
+        None => ("", false),
     }
 }
 
+// What the federation calls a publication.
 fn publication_name(
     alloc: Global,
     registry: &Registry,
     publication: EndRef,
 ) -> Result<Text, OutOfMemory>
-    ensures { IfOk result (λ name. name ≡ publication_name registry.now publication) }
+    ensures { IfOk result (λ name. name ≡ pub_name (publication_interface registry.now publication)) }
 {
-    match federate_in(registry, publication.fed) {
-        Some(federate) => publication_in(alloc, federate, publication.index),
-        None => Ok(Text::new(alloc)),
-    }
+    let owner = federate_name(registry, publication.fed);
+    let (name, global) = publication_called(registry, publication);
+    global_name(alloc, owner, name, global)
 }
 
-// What the federation calls an endpoint, and nothing where there is none of this number.
-fn endpoint_in(alloc: Global, federate: &FederateRecord, index: u16) -> Result<Text, OutOfMemory>
-    ensures { IfOk result (λ name. name ≡ endpoint_in federate.now index) }
-{
-    match federate.endpoints.get(usize::from(index)) {
-        Some(endpoint) => {
-            let name = endpoint.name.as_str();
-            global_name(alloc, federate.name.as_str(), name, endpoint.global)
-        }
-        None => Ok(Text::new(alloc)),
-    }
-}
-
+// What the federation calls an endpoint.
 fn endpoint_name(alloc: Global, registry: &Registry, endpoint: EndRef) -> Result<Text, OutOfMemory>
-    ensures { IfOk result (λ name. name ≡ endpoint_name registry.now endpoint) }
+    ensures { IfOk result (λ name. name ≡ end_name (endpoint_at registry.now endpoint)) }
 {
-    match federate_in(registry, endpoint.fed) {
-        Some(federate) => endpoint_in(alloc, federate, endpoint.index),
-        None => Ok(Text::new(alloc)),
-    }
+    let owner = federate_name(registry, endpoint.fed);
+    let (name, global) = endpoint_called(registry, endpoint);
+    global_name(alloc, owner, name, global)
 }
 
 // A reason against a plan, told by names; none for want of memory.
@@ -183,7 +179,7 @@ fn plan_told(
     let told = match refusal {
         PlanRefusal::NoFederates => Refusal::NoFederates,
         PlanRefusal::MissingRequired { fed, name } => Refusal::MissingRequired {
-            federate: name_of(alloc, federate_in(registry, fed))?,
+            federate: Text::from_str(alloc, federate_name(registry, fed))?,
             target: name,
         },
         PlanRefusal::KindMismatch {
@@ -191,7 +187,7 @@ fn plan_told(
             publication,
             ..
         } => Refusal::KindMismatch {
-            federate: name_of(alloc, federate_in(registry, fed))?,
+            federate: Text::from_str(alloc, federate_name(registry, fed))?,
             publication: publication_name(alloc, registry, publication)?,
         },
         PlanRefusal::FilterTarget(name) => Refusal::FilterTarget(name),
@@ -279,6 +275,16 @@ fn first_missing(scripts: &[Option<Script>]) -> Option<usize>
     None
 }
 
+// The name of a federate, and a blank one where there is none of this number.
+fn name_at(federates: &[FederateRecord], f: usize) -> &str
+    ensures { result.now ≡ federate_name federates.now f }
+{
+    match federates.get(f) {
+        Some(federate) => federate.name.as_str(),
+        None => "",
+    }
+}
+
 fn check_scripts(
     alloc: Global,
     federates: &[FederateRecord],
@@ -288,7 +294,7 @@ fn check_scripts(
 {
     match first_missing(scripts) {
         Some(f) => {
-            let name = name_of(alloc, federates.get(f))?;
+            let name = Text::from_str(alloc, name_at(federates, f))?;
             Err(Unread::Refused(Refusal::NoScript(name)))
         }
         None => Ok(()),
