@@ -13,7 +13,7 @@ use self::steps::{answers, asked, ends_so, go, logs, open, phase};
 use hel_lists::Text;
 use hel_values::{Payload, TextValue, Value};
 use helics_time::{MAX, Stamp};
-use one_place::{CallRefusal, FedLog, Machine, MachineStep, Unlawful};
+use one_place::{CallRefusal, FedLog, Logs, Machine, MachineStep, Unlawful};
 use std::alloc::Global;
 use std::process::Abort;
 use std::test::Fail;
@@ -100,12 +100,17 @@ fn step_at(alloc: Global, f: u16, place: u8) -> Result<MachineStep, Fail> {
     }
 }
 
+fn take_all(alloc: Global, machine: &mut Machine, steps: &[(u16, u8)]) -> Result<(), Fail> {
+    for (f, place) in steps {
+        go(machine, step_at(alloc, *f, *place)?)?;
+    }
+    Ok(())
+}
+
 // The machine of three federates after these steps.
 fn machine_after(alloc: Global, steps: &[(u16, u8)]) -> Result<Machine, Fail> {
     let mut machine = open(alloc, plan_of(alloc, &THREE)?)?;
-    for (f, place) in steps {
-        go(&mut machine, step_at(alloc, *f, *place)?)?;
-    }
+    take_all(alloc, &mut machine, steps)?;
     Ok(machine)
 }
 
@@ -177,7 +182,21 @@ const ROWS: [(&[(u16, u8)], Phase, &[u8; 16]); 10] = [
     ),
 ];
 
-// Each step is answered so behind these steps.
+// A step of federate 0 is answered as a letter means, in a phase behind these steps.
+fn is_answered(
+    rt: &impl Abort,
+    alloc: Global,
+    steps: &[(u16, u8)],
+    stands: Phase,
+    place: u8,
+    letter: u8,
+) -> Result<(), Fail> {
+    let step = step_at(alloc, 0, place)?;
+    let mut machine = machine_after(alloc, steps)?;
+    assert_eq!(rt; phase(&machine, 0), stands);
+    answers(rt, alloc, &mut machine, step, meant(letter, stands))
+}
+
 fn row_holds(
     rt: &impl Abort,
     alloc: Global,
@@ -186,10 +205,7 @@ fn row_holds(
     letters: &[u8; 16],
 ) -> Result<(), Fail> {
     for (place, letter) in letters.iter().enumerate() {
-        let mut machine = machine_after(alloc, steps)?;
-        assert_eq!(rt; phase(&machine, 0), stands);
-        let step = step_at(alloc, 0, place as u8)?;
-        answers(rt, alloc, &mut machine, step, meant(*letter, stands))?;
+        is_answered(rt, alloc, steps, stands, place as u8, *letter)?;
     }
     Ok(())
 }
@@ -213,33 +229,45 @@ fn answered(letter: u8) -> Option<Unlawful> {
     }
 }
 
-// The two asked for 10 and 100.
-#[test]
-fn a_grant_is_early_while_an_ancestor_holds_it(rt: HostRuntime) -> Result<(), Fail> {
-    let steps = [
-        (0, BEGIN),
-        (0, ENTER),
-        (1, ENTER),
-        (0, GRANT),
-        (1, GRANT),
-        (0, ASK),
-        (1, ASK_LAST),
-    ];
-    let mut machine = machine_after(rt.alloc(), &steps)?;
-    // The first could still send at 10, and does, and then what is sent comes at (10, 1).
-    for (f, place, letter) in [
-        (1, GRANT, b'e'),
-        (0, GRANT, b'-'),
-        (0, PUBLISH, b'-'),
-        (1, GRANT, b'e'),
-        (0, ASK_LATER, b'-'),
-        (1, GRANT, b'-'),
-        (1, GRANT, b'n'),
-    ] {
-        let step = step_at(rt.alloc(), f, place)?;
-        answers(&rt, rt.alloc(), &mut machine, step, answered(letter))?;
+// The two ask for 10 and 100.
+const ASKED: [(u16, u8); 7] = [
+    (0, BEGIN),
+    (0, ENTER),
+    (1, ENTER),
+    (0, GRANT),
+    (1, GRANT),
+    (0, ASK),
+    (1, ASK_LAST),
+];
+
+// The first could still send at 10, and does, and then what is sent comes at (10, 1).
+const ANSWERED: [(u16, u8, u8); 7] = [
+    (1, GRANT, b'e'),
+    (0, GRANT, b'-'),
+    (0, PUBLISH, b'-'),
+    (1, GRANT, b'e'),
+    (0, ASK_LATER, b'-'),
+    (1, GRANT, b'-'),
+    (1, GRANT, b'n'),
+];
+
+fn each_answers(
+    rt: &impl Abort,
+    alloc: Global,
+    machine: &mut Machine,
+    steps: &[(u16, u8, u8)],
+) -> Result<(), Fail> {
+    for (f, place, letter) in steps {
+        let step = step_at(alloc, *f, *place)?;
+        answers(rt, alloc, machine, step, answered(*letter))?;
     }
     Ok(())
+}
+
+#[test]
+fn a_grant_is_early_while_an_ancestor_holds_it(rt: HostRuntime) -> Result<(), Fail> {
+    let mut machine = machine_after(rt.alloc(), &ASKED)?;
+    each_answers(&rt, rt.alloc(), &mut machine, &ANSWERED)
 }
 
 // A log has so many grants, and ends so by its derived text.
@@ -254,31 +282,37 @@ fn stands(
     ends_so(rt, alloc, log, end)
 }
 
-#[test]
-fn logs_end_as_their_federates_stand(rt: HostRuntime) -> Result<(), Fail> {
-    let steps = [
-        (0, BEGIN),
-        (2, ENTER),
-        (0, ENTER),
-        (2, GRANT),
-        (1, ENTER),
-        (2, ASK),
-        (0, GRANT),
-        (2, GRANT),
-        (2, FINISH),
-        (1, DIE),
-        (1, HALT),
-    ];
-    let machine = machine_after(rt.alloc(), &steps)?;
-    let told = [
-        (1, "Ended(Halted { fed: 1 })"),
-        (0, "Ended(Died)"),
-        (2, "Ended(Finished)"),
-    ];
-    let logs = logs(&machine);
-    assert_eq!(rt; logs.feds.len(), told.len());
-    for (log, (grants, end)) in logs.feds.as_slice().iter().zip(told) {
-        stands(&rt, rt.alloc(), log, grants, end)?;
+const ENDING: [(u16, u8); 11] = [
+    (0, BEGIN),
+    (2, ENTER),
+    (0, ENTER),
+    (2, GRANT),
+    (1, ENTER),
+    (2, ASK),
+    (0, GRANT),
+    (2, GRANT),
+    (2, FINISH),
+    (1, DIE),
+    (1, HALT),
+];
+
+// So many grants of each federate, and its end by its derived text.
+const ENDS: [(usize, &str); 3] = [
+    (1, "Ended(Halted { fed: 1 })"),
+    (0, "Ended(Died)"),
+    (2, "Ended(Finished)"),
+];
+
+fn each_stands(rt: &impl Abort, alloc: Global, logs: &Logs) -> Result<(), Fail> {
+    assert_eq!(rt; logs.feds.len(), ENDS.len());
+    for (log, (grants, end)) in logs.feds.as_slice().iter().zip(ENDS) {
+        stands(rt, alloc, log, grants, end)?;
     }
     Ok(())
+}
+
+#[test]
+fn logs_end_as_their_federates_stand(rt: HostRuntime) -> Result<(), Fail> {
+    let machine = machine_after(rt.alloc(), &ENDING)?;
+    each_stands(&rt, rt.alloc(), logs(&machine))
 }

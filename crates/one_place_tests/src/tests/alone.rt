@@ -1,7 +1,7 @@
 // Runs of federates without interfaces, by steps of the machine and by scripts.
 use super::plans::{Row, plan_of};
 use super::runs::{Say, Speech, run, scenario_of};
-use super::steps::{ends_so, go, logs, open, phase, refusal};
+use super::steps::{begun, ends_so, go, logs, phase, refusal};
 use hel_values::TextValue;
 use helics_time::MAX;
 use iteration_rules::{Kind, Mode};
@@ -176,14 +176,19 @@ fn play(alloc: Global, machine: &mut Machine, f: u16, says: &[Say]) -> Result<()
     Ok(())
 }
 
-// The machine once each federate has said its part to the end, the last federate first.
-fn played_by_steps(alloc: Global, rows: &[Row], speeches: &[Speech]) -> Result<Machine, Fail> {
-    let mut machine = open(alloc, plan_of(alloc, rows)?)?;
-    go(&mut machine, MachineStep::Begin)?;
+// Each federate says its part to the end, the last federate first.
+fn play_all(alloc: Global, machine: &mut Machine, speeches: &[Speech]) -> Result<(), Fail> {
     for (f, speech) in speeches.iter().enumerate().rev() {
         let f = u16::try_from(f).ok().ok_or("number")?;
-        play(alloc, &mut machine, f, speech.1)?;
+        play(alloc, machine, f, speech.1)?;
     }
+    Ok(())
+}
+
+// The machine once each federate has said its part.
+fn played_by_steps(alloc: Global, rows: &[Row], speeches: &[Speech]) -> Result<Machine, Fail> {
+    let mut machine = begun(alloc, plan_of(alloc, rows)?)?;
+    play_all(alloc, &mut machine, speeches)?;
     Ok(machine)
 }
 
@@ -220,13 +225,35 @@ fn tell(rt: &impl Abort, alloc: Global, logs: &Logs, ends: &[End]) -> Result<(),
     Ok(())
 }
 
+// What the logs tell of federates that are stepped.
+fn steps_tell(
+    rt: &impl Abort,
+    alloc: Global,
+    rows: &[Row],
+    speeches: &[Speech],
+    ends: &[End],
+) -> Result<(), Fail> {
+    let machine = played_by_steps(alloc, rows, speeches)?;
+    tell(rt, alloc, logs(&machine), ends)
+}
+
+// What the logs tell of their reference run.
+fn scripts_tell(
+    rt: &impl Abort,
+    alloc: Global,
+    rows: &[Row],
+    speeches: &[Speech],
+    ends: &[End],
+) -> Result<(), Fail> {
+    let scenario = scenario_of(alloc, rows, &[], speeches)?;
+    tell(rt, alloc, &run(alloc, scenario)?, ends)
+}
+
 #[test]
 fn federates_alone_go_on_by_steps_and_by_scripts(rt: HostRuntime) -> Result<(), Fail> {
     for (rows, speeches, ends) in RUNS {
-        let machine = played_by_steps(rt.alloc(), rows, speeches)?;
-        tell(&rt, rt.alloc(), logs(&machine), ends)?;
-        let scenario = scenario_of(rt.alloc(), rows, &[], speeches)?;
-        tell(&rt, rt.alloc(), &run(rt.alloc(), scenario)?, ends)?;
+        steps_tell(&rt, rt.alloc(), rows, speeches, ends)?;
+        scripts_tell(&rt, rt.alloc(), rows, speeches, ends)?;
     }
     Ok(())
 }

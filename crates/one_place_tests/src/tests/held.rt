@@ -1,6 +1,6 @@
 // Steps that are refused: of strange numbers, and grants that an ancestor holds.
 use super::plans::{Row, THREE, plan_of};
-use super::steps::{answers, asked, go, logs, open, phase};
+use super::steps::{answers, asked, begun, go, logs, phase};
 use super::{BEGIN, machine_after, step_at};
 use hel_values::ValueKind;
 use helics_time::Stamp;
@@ -10,15 +10,18 @@ use std::process::Abort;
 use std::test::Fail;
 use time_state::Phase;
 
+fn is_strange(rt: &impl Abort, alloc: Global, f: u16, place: u8) -> Result<(), Fail> {
+    let mut machine = machine_after(alloc, &[(0, BEGIN)])?;
+    let step = step_at(alloc, f, place)?;
+    answers(rt, alloc, &mut machine, step, Some(Unlawful::StrangeNumber))
+}
+
 // Each kind of step but Begin, of a federate that the plan doesn't have; a Halt of the core that there is, and of none.
 #[test]
 fn each_step_of_a_strange_number_is_refused(rt: HostRuntime) -> Result<(), Fail> {
     for f in [THREE.len() as u16, u16::MAX] {
         for place in 1..16 {
-            let mut machine = machine_after(rt.alloc(), &[(0, BEGIN)])?;
-            let step = step_at(rt.alloc(), f, place)?;
-            let strange = Some(Unlawful::StrangeNumber);
-            answers(&rt, rt.alloc(), &mut machine, step, strange)?;
+            is_strange(&rt, rt.alloc(), f, place)?;
         }
     }
     Ok(())
@@ -52,7 +55,7 @@ fn step_of(step: Do) -> MachineStep {
 }
 
 // A plan, steps behind Begin, the federate that asks, and the ancestor by which its grant is early, with its event.
-type Held = (&'static [Row], &'static [Do], u16, u16, (u64, u64));
+type Held = (&'static [Row], &'static [Do], u16, u16, (u32, u32));
 
 const HELD: [Held; 7] = [
     // Those who haven't entered could still publish at (0, 0).
@@ -173,23 +176,40 @@ fn is_held(
     Ok(())
 }
 
+fn take_all(machine: &mut Machine, steps: &[Do]) -> Result<(), Fail> {
+    for step in steps {
+        go(machine, step_of(*step))?;
+    }
+    Ok(())
+}
+
 // The machine of a plan after these steps.
 fn machine_of(alloc: Global, rows: &[Row], steps: &[Do]) -> Result<Machine, Fail> {
-    let mut machine = open(alloc, plan_of(alloc, rows)?)?;
-    go(&mut machine, MachineStep::Begin)?;
-    for step in steps {
-        go(&mut machine, step_of(*step))?;
-    }
+    let mut machine = begun(alloc, plan_of(alloc, rows)?)?;
+    take_all(&mut machine, steps)?;
     Ok(machine)
+}
+
+fn ancestor_holds(rt: &impl Abort, alloc: Global, held: &Held) -> Result<(), Fail> {
+    let (rows, steps, f, holder, (time, micro)) = *held;
+    let stamp = Stamp {
+        time: u64::from(time),
+        micro: u64::from(micro),
+    };
+    let mut machine = machine_of(alloc, rows, steps)?;
+    is_held(
+        rt,
+        alloc,
+        &mut machine,
+        f,
+        Unlawful::Early { holder, stamp },
+    )
 }
 
 #[test]
 fn the_least_ancestor_holds_a_grant(rt: HostRuntime) -> Result<(), Fail> {
-    for (rows, steps, f, holder, (time, micro)) in HELD {
-        let mut machine = machine_of(rt.alloc(), rows, steps)?;
-        let stamp = Stamp { time, micro };
-        let early = Unlawful::Early { holder, stamp };
-        is_held(&rt, rt.alloc(), &mut machine, f, early)?;
+    for held in HELD {
+        ancestor_holds(&rt, rt.alloc(), &held)?;
     }
     Ok(())
 }

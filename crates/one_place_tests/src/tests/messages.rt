@@ -1,10 +1,10 @@
 // Messages on their way, by steps of the machine and by scripts.
-ghost use Rattle.std.specs.Prelude.{[]};
+ghost use Rattle.std.specs.Prelude.{[], IfOk};
 ghost use Rattle.interface_names.specs.Filter.{KeepsBounds};
 
 use super::plans::{endpoint, enter, nameless, plan_of_all, texts};
 use super::runs::{Say, Speech, run, scenario_over};
-use super::steps::{self, asked, go, logs, open};
+use super::steps::{self, asked, entered, go, logs, open};
 use due_queue::{Content, Item, Message};
 use hel_lists::{Items, Text};
 use hel_values::{EndRef, Payload};
@@ -53,39 +53,43 @@ fn federate(
     Ok(federate)
 }
 
-// A, B and C, where a reroute, a delay and a drop stand on what A sends.
-fn filtered(alloc: Global, per_million: u32) -> Result<Plan, Fail> {
+// Puts a filter on what A sends.
+fn put(alloc: Global, a: &mut FederateRecord, kind: FilterKind) -> Result<(), Fail>
+    requires { KeepsBounds kind [] }
+{
+    a.filters.push(filter(alloc, "A/e", kind)?)?;
+    Ok(())
+}
+
+fn rerouting(alloc: Global) -> Result<FilterKind, Fail>
+    ensures { IfOk result (λ kind. KeepsBounds kind []) }
+{
+    Ok(FilterKind::Reroute(Text::from_str(alloc, "C/e")?))
+}
+
+// A with a reroute, a delay and a drop on what it sends.
+fn sender(alloc: Global, per_million: u32) -> Result<FederateRecord, Fail> {
     if per_million > 1_000_000 {
         return Err(Fail::from("chance"));
     }
-    let mut a = federate(alloc, "A", None)?;
-    let reroute = FilterKind::Reroute(Text::from_str(alloc, "C/e")?);
-    a.filters.push(filter(alloc, "A/e", reroute)?)?;
-    a.filters.push(filter(alloc, "A/e", FilterKind::Delay(4))?)?;
     let drop = FilterKind::Drop {
         per_million,
         seed: 0,
     };
-    a.filters.push(filter(alloc, "A/e", drop)?)?;
-    let mut registry = Registry::new(alloc);
-    enter(&mut registry, a)?;
-    enter(&mut registry, federate(alloc, "B", None)?)?;
-    enter(&mut registry, federate(alloc, "C", None)?)?;
-    plan_of_all(alloc, &registry)
+    let mut a = federate(alloc, "A", None)?;
+    put(alloc, &mut a, rerouting(alloc)?)?;
+    put(alloc, &mut a, FilterKind::Delay(4))?;
+    put(alloc, &mut a, drop)?;
+    Ok(a)
 }
 
-// The machine of a plan whose federates have their entry.
-fn entered(alloc: Global, plan: Plan) -> Result<Machine, Fail> {
-    let count = plan.count();
-    let mut machine = open(alloc, plan)?;
-    go(&mut machine, MachineStep::Begin)?;
-    for f in 0..count {
-        go(&mut machine, MachineStep::Enter(f))?;
-    }
-    for f in 0..count {
-        go(&mut machine, MachineStep::Grant(f))?;
-    }
-    Ok(machine)
+// A, B and C, where filters stand on what A sends.
+fn filtered(alloc: Global, per_million: u32) -> Result<Plan, Fail> {
+    let mut registry = Registry::new(alloc);
+    enter(&mut registry, sender(alloc, per_million))?;
+    enter(&mut registry, federate(alloc, "B", None))?;
+    enter(&mut registry, federate(alloc, "C", None))?;
+    plan_of_all(alloc, &registry)
 }
 
 pub fn is_message(
@@ -162,12 +166,25 @@ fn step_of(alloc: Global, step: Do) -> Result<MachineStep, Fail> {
     }
 }
 
+fn send_all(alloc: Global, machine: &mut Machine) -> Result<(), Fail> {
+    for step in SENDING {
+        go(machine, step_of(alloc, step)?)?;
+    }
+    Ok(())
+}
+
 fn after_a_send(alloc: Global, per_million: u32) -> Result<Machine, Fail> {
     let mut machine = entered(alloc, filtered(alloc, per_million)?)?;
-    for step in SENDING {
-        go(&mut machine, step_of(alloc, step)?)?;
-    }
+    send_all(alloc, &mut machine)?;
     Ok(machine)
+}
+
+// With this chance of a drop the message comes, or not.
+fn passes(rt: &impl Abort, alloc: Global, per_million: u32, kept: bool) -> Result<(), Fail> {
+    let machine = after_a_send(alloc, per_million)?;
+    let log = logs(&machine).feds.get(2).ok_or("no log")?;
+    let time = if kept { 14 } else { 100 };
+    told(rt, alloc, log.entries.as_slice().last(), time, kept)
 }
 
 #[test]
@@ -179,25 +196,26 @@ fn a_message_passes_its_filters(rt: HostRuntime) -> Result<(), Fail> {
         (607_535, true),
         (607_536, false),
     ] {
-        let machine = after_a_send(rt.alloc(), per_million)?;
-        let log = logs(&machine).feds.get(2).ok_or("no log")?;
-        let time = if kept { 14 } else { 100 };
-        told(&rt, rt.alloc(), log.entries.as_slice().last(), time, kept)?;
+        passes(&rt, rt.alloc(), per_million, kept)?;
     }
     Ok(())
+}
+
+fn with_targeted(alloc: Global) -> Result<FederateRecord, Fail> {
+    let mut federate = nameless(alloc, "B")?;
+    let mut targeted = endpoint(alloc, "e", None)?;
+    targeted.targeted = true;
+    federate.endpoints.push(targeted)?;
+    Ok(federate)
 }
 
 // A with no default destination, B with a targeted endpoint that has no target, C with the default
 // destination A.
 fn callers(alloc: Global) -> Result<Machine, Fail> {
-    let mut b = nameless(alloc, "B")?;
-    let mut targeted = endpoint(alloc, "e", None)?;
-    targeted.targeted = true;
-    b.endpoints.push(targeted)?;
     let mut registry = Registry::new(alloc);
-    enter(&mut registry, federate(alloc, "A", None)?)?;
-    enter(&mut registry, b)?;
-    enter(&mut registry, federate(alloc, "C", Some("A/e"))?)?;
+    enter(&mut registry, federate(alloc, "A", None))?;
+    enter(&mut registry, with_targeted(alloc))?;
+    enter(&mut registry, federate(alloc, "C", Some("A/e")))?;
     open(alloc, plan_of_all(alloc, &registry)?)
 }
 
@@ -231,16 +249,26 @@ const BEGUN: [Call; 6] = [
 
 const ENDED: [Call; 1] = [(0, 9, "X", Some(CallRefusal::Ended(Cause::Finished)))];
 
+fn finish_all(machine: &mut Machine) -> Result<(), Fail> {
+    for f in 0..3 {
+        go(machine, MachineStep::Finish(f))?;
+    }
+    Ok(())
+}
+
+// What is sent before the beginning, behind it, and at the end is answered so.
+fn each_time_answers(rt: &impl Abort, alloc: Global, machine: &mut Machine) -> Result<(), Fail> {
+    answers(rt, alloc, machine, &CREATED)?;
+    go(machine, MachineStep::Begin)?;
+    answers(rt, alloc, machine, &BEGUN)?;
+    finish_all(machine)?;
+    answers(rt, alloc, machine, &ENDED)
+}
+
 #[test]
 fn sends_are_refused_in_order(rt: HostRuntime) -> Result<(), Fail> {
     let mut machine = callers(rt.alloc())?;
-    answers(&rt, rt.alloc(), &mut machine, &CREATED)?;
-    go(&mut machine, MachineStep::Begin)?;
-    answers(&rt, rt.alloc(), &mut machine, &BEGUN)?;
-    for f in 0..3 {
-        go(&mut machine, MachineStep::Finish(f))?;
-    }
-    answers(&rt, rt.alloc(), &mut machine, &ENDED)
+    each_time_answers(&rt, rt.alloc(), &mut machine)
 }
 
 const AT_THE_HORIZON: [Call; 2] = [
@@ -251,15 +279,21 @@ const AT_THE_HORIZON: [Call; 2] = [
 // The plan of one federate with an endpoint.
 fn plan_of_one(alloc: Global) -> Result<Plan, Fail> {
     let mut registry = Registry::new(alloc);
-    enter(&mut registry, federate(alloc, "A", None)?)?;
+    enter(&mut registry, federate(alloc, "A", None))?;
     plan_of_all(alloc, &registry)
+}
+
+// The machine of one federate at the greatest time.
+fn at_the_horizon(alloc: Global) -> Result<Machine, Fail> {
+    let mut machine = entered(alloc, plan_of_one(alloc)?)?;
+    go(&mut machine, asked(0, MAX))?;
+    go(&mut machine, MachineStep::Grant(0))?;
+    Ok(machine)
 }
 
 #[test]
 fn nothing_is_sent_past_the_horizon(rt: HostRuntime) -> Result<(), Fail> {
-    let mut machine = entered(rt.alloc(), plan_of_one(rt.alloc())?)?;
-    go(&mut machine, asked(0, MAX))?;
-    go(&mut machine, MachineStep::Grant(0))?;
+    let mut machine = at_the_horizon(rt.alloc())?;
     answers(&rt, rt.alloc(), &mut machine, &AT_THE_HORIZON)
 }
 
@@ -269,14 +303,19 @@ const ECHOING: [Speech; 2] = [
     (None, &[Say::Ask(100), Say::Echo, Say::Ask(100)]),
 ];
 
-// A, and B on which a delay of 10 stands.
+// B with a delay of 10 on what it sends.
+fn late(alloc: Global) -> Result<FederateRecord, Fail> {
+    let delay = filter(alloc, "B/e", FilterKind::Delay(10))?;
+    let mut federate = federate(alloc, "B", None)?;
+    federate.filters.push(delay)?;
+    Ok(federate)
+}
+
+// A, and B on which a delay stands.
 fn delayed(alloc: Global) -> Result<Plan, Fail> {
-    let mut b = federate(alloc, "B", None)?;
-    b.filters
-        .push(filter(alloc, "B/e", FilterKind::Delay(10))?)?;
     let mut registry = Registry::new(alloc);
-    enter(&mut registry, federate(alloc, "A", None)?)?;
-    enter(&mut registry, b)?;
+    enter(&mut registry, federate(alloc, "A", None))?;
+    enter(&mut registry, late(alloc))?;
     plan_of_all(alloc, &registry)
 }
 

@@ -237,7 +237,7 @@ fn federate_of(alloc: Global, member: &Member) -> Result<FederateRecord, Fail> {
 fn plan_of(alloc: Global, members: &[Member]) -> Result<Plan, Fail> {
     let mut registry = Registry::new(alloc);
     for member in members {
-        enter(&mut registry, federate_of(alloc, member)?)?;
+        enter(&mut registry, federate_of(alloc, member))?;
     }
     plan_of_all(alloc, &registry)
 }

@@ -173,13 +173,19 @@ fn settings_of(set: Set) -> Result<Settings, Fail> {
     Ok(settings)
 }
 
+fn federate_with(alloc: Global, name: &str, row: &Row, set: Set) -> Result<FederateRecord, Fail> {
+    let settings = settings_of(set)?;
+    let mut federate = federate_of(alloc, name, row)?;
+    federate.settings = settings;
+    Ok(federate)
+}
+
 /// The plan of a table whose first federates have these settings.
 pub fn plan_with(alloc: Global, rows: &[Row], sets: &[Set]) -> Result<Plan, Fail> {
     let mut registry = Registry::new(alloc);
     for (at, (name, row)) in FEDERATES.iter().zip(rows).enumerate() {
-        let mut federate = federate_of(alloc, name, row)?;
-        federate.settings = settings_of(sets.get(at).copied().unwrap_or(Set::Plain))?;
-        enter(&mut registry, federate)?;
+        let set = sets.get(at).copied().unwrap_or(Set::Plain);
+        enter(&mut registry, federate_with(alloc, name, row, set))?;
     }
     plan_of_all(alloc, &registry)
 }
@@ -189,9 +195,9 @@ pub fn plan_of_all(alloc: Global, registry: &Registry) -> Result<Plan, Fail> {
     plan_over(alloc, registry, tree_of(alloc, registry.len())?)
 }
 
-/// Takes a federate into a registry.
-pub fn enter(registry: &mut Registry, federate: FederateRecord) -> Result<(), Fail> {
-    match registry.add(federate) {
+/// Takes a federate into a registry, where there is one.
+pub fn enter(registry: &mut Registry, federate: Result<FederateRecord, Fail>) -> Result<(), Fail> {
+    match registry.add(federate?) {
         Ok(_) => Ok(()),
         Err(_) => Err(Fail::from("no federate")),
     }

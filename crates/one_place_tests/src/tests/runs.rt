@@ -1,5 +1,6 @@
 // Scripts of federates, and runs of them by functions that promise nothing.
 ghost use Rattle.std.specs.Prelude.{IfOk};
+ghost use Rattle.hel_lists.specs.Members.{Each};
 ghost use Rattle.fed_script.specs.Script.{IsCourse, IsInitial, NamesTime};
 
 use super::messages::payload;
@@ -120,12 +121,19 @@ pub fn scenario_of(
     scenario_over(alloc, plan_with(alloc, rows, sets)?, speeches)
 }
 
-// What the federates of a plan say.
-pub fn scenario_over(alloc: Global, plan: Plan, speeches: &[Speech]) -> Result<Scenario, Fail> {
+fn scripts_of(alloc: Global, speeches: &[Speech]) -> Result<Items<Script>, Fail>
+    ensures { IfOk result (λ scripts. Each IsCourse scripts) }
+{
     let mut scripts = Items::new(alloc);
     for speech in speeches {
         scripts.push(script_of(alloc, speech)?)?;
     }
+    Ok(scripts)
+}
+
+// What the federates of a plan say.
+pub fn scenario_over(alloc: Global, plan: Plan, speeches: &[Speech]) -> Result<Scenario, Fail> {
+    let scripts = scripts_of(alloc, speeches)?;
     if scripts.len() != usize::from(plan.count()) {
         return Err(Fail::from("a script for each"));
     }

@@ -50,6 +50,38 @@ pub fn go(machine: &mut Machine, step: MachineStep) -> Result<(), Fail> {
     }
 }
 
+// So many federates enter.
+fn enter_all(machine: &mut Machine, count: u16) -> Result<(), Fail> {
+    for f in 0..count {
+        go(machine, MachineStep::Enter(f))?;
+    }
+    Ok(())
+}
+
+// So many federates have their entry.
+fn grant_all(machine: &mut Machine, count: u16) -> Result<(), Fail> {
+    for f in 0..count {
+        go(machine, MachineStep::Grant(f))?;
+    }
+    Ok(())
+}
+
+/// The machine of a plan that has begun.
+pub fn begun(alloc: Global, plan: Plan) -> Result<Machine, Fail> {
+    let mut machine = open(alloc, plan)?;
+    go(&mut machine, MachineStep::Begin)?;
+    Ok(machine)
+}
+
+/// The machine of a plan whose federates have their entry.
+pub fn entered(alloc: Global, plan: Plan) -> Result<Machine, Fail> {
+    let count = plan.count();
+    let mut machine = begun(alloc, plan)?;
+    enter_all(&mut machine, count)?;
+    grant_all(&mut machine, count)?;
+    Ok(machine)
+}
+
 pub fn phase(machine: &Machine, f: u16) -> Phase {
     machine.phase(f)
 }

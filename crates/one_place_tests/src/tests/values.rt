@@ -1,7 +1,7 @@
 // Values on their way, by steps of the machine and by scripts.
 use super::plans::{Row, plan_of};
 use super::runs::{Say, Speech, run, scenario_of};
-use super::steps::{asked, ends_so, go, logs, open};
+use super::steps::{asked, ends_so, entered, go, logs};
 use due_queue::{Content, Item};
 use hel_values::{EndRef, Value, ValueKind};
 use helics_time::MAX;
@@ -54,18 +54,16 @@ fn step_of(step: Do) -> MachineStep {
     }
 }
 
-fn machine_after(alloc: Global, rows: &[Row], steps: &[Do]) -> Result<Machine, Fail> {
-    let plan = plan_of(alloc, rows)?;
-    let count = plan.count();
-    let mut machine = open(alloc, plan)?;
-    go(&mut machine, MachineStep::Begin)?;
-    for f in 0..count {
-        go(&mut machine, MachineStep::Enter(f))?;
-        go(&mut machine, MachineStep::Grant(f))?;
-    }
+fn take_all(machine: &mut Machine, steps: &[Do]) -> Result<(), Fail> {
     for step in steps {
-        go(&mut machine, step_of(*step))?;
+        go(machine, step_of(*step))?;
     }
+    Ok(())
+}
+
+fn machine_after(alloc: Global, rows: &[Row], steps: &[Do]) -> Result<Machine, Fail> {
+    let mut machine = entered(alloc, plan_of(alloc, rows)?)?;
+    take_all(&mut machine, steps)?;
     Ok(machine)
 }
 
