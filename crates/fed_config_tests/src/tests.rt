@@ -5,6 +5,7 @@ use hel_lists::{Items, Text};
 use interface_names::{EndRecord, FilterKind, FilterRecord, InputRecord, PubRecord};
 use std::alloc::Global;
 use std::fmt::Write;
+use std::process::Abort;
 use std::test::Fail;
 
 // A file that is refused, with the cause and the path.
@@ -222,23 +223,34 @@ const REFUSED: [(&str, &str); 79] = [
     ),
 ];
 
+// A file says this, or is refused so.
+pub fn says(rt: &impl Abort, alloc: Global, file: &str, told: &str) -> Result<(), Fail> {
+    let answer = shown(alloc, file)?;
+    assert_eq!(rt; answer.as_str(), told, "{file:.200}");
+    Ok(())
+}
+
 #[test]
 fn refused_files(rt: HostRuntime) -> Result<(), Fail> {
     for (file, told) in REFUSED {
-        let answer = shown(rt.alloc(), file)?;
-        assert_eq!(rt; answer.as_str(), told, "{file}");
+        says(&rt, rt.alloc(), file, told)?;
     }
     Ok(())
 }
 
 const NO_TEXTS: [&[u8]; 3] = [b"{\"name\":\"\xff\"}", b"\xef\xbb\xbf{}", b"\xc0\x80"];
 
+fn is_no_text(rt: &impl Abort, alloc: Global, file: &[u8]) -> Result<(), Fail> {
+    let refusal = read_federate(alloc, file).err().ok_or("a refusal")?;
+    assert_eq!(rt; refusal.cause, ConfigCause::NotJson);
+    assert_eq!(rt; refusal.path.as_str(), "/");
+    Ok(())
+}
+
 #[test]
 fn files_that_are_no_texts(rt: HostRuntime) -> Result<(), Fail> {
     for file in NO_TEXTS {
-        let refusal = read_federate(rt.alloc(), file).err().ok_or("a refusal")?;
-        assert_eq!(rt; refusal.cause, ConfigCause::NotJson);
-        assert_eq!(rt; refusal.path.as_str(), "/");
+        is_no_text(&rt, rt.alloc(), file)?;
     }
     Ok(())
 }
@@ -295,19 +307,28 @@ const READ: [(&str, &str); 13] = [
 #[test]
 fn read_files(rt: HostRuntime) -> Result<(), Fail> {
     for (file, told) in READ {
-        let answer = shown(rt.alloc(), file)?;
-        assert_eq!(rt; answer.as_str(), told, "{file}");
+        says(&rt, rt.alloc(), file, told)?;
     }
+    Ok(())
+}
+
+// The file of a federate whose name has so many letters.
+fn named(alloc: Global, count: usize) -> Result<String, Fail> {
+    let name = String::from_utf8(vec![in alloc; b'x'; count]?)?;
+    Ok(format!(in alloc; "{{\"name\":\"{name}\"}}")?)
+}
+
+pub fn begins_so(rt: &impl Abort, alloc: Global, file: &str, told: &str) -> Result<(), Fail> {
+    let answer = shown(alloc, file)?;
+    assert!(rt; answer.starts_with(told), "{file:.200}");
     Ok(())
 }
 
 #[test]
 fn length_of_a_name(rt: HostRuntime) -> Result<(), Fail> {
     for (count, told) in [(1_024, "named"), (1_025, "OutOfRange /name")] {
-        let name = String::from_utf8(vec![in rt.alloc(); b'x'; count]?)?;
-        let file = format!(in rt.alloc(); "{{\"name\":\"{name}\"}}")?;
-        let answer = shown(rt.alloc(), file.as_str())?;
-        assert!(rt; answer.starts_with(told), "{count}");
+        let file = named(rt.alloc(), count)?;
+        begins_so(&rt, rt.alloc(), file.as_str(), told)?;
     }
     Ok(())
 }
@@ -322,16 +343,21 @@ const LENGTHS: [(usize, &str, &str); 6] = [
     (32_769, "filters", "OutOfRange /filters"),
 ];
 
+// The file of a federate with a list of so many items.
+fn listed(alloc: Global, key: &str, count: usize) -> Result<String, Fail> {
+    let mut file = format!(in alloc; "{{\"{key}\":[1")?;
+    for _ in 1..count {
+        file.push_str(",1")?;
+    }
+    file.push_str("]}")?;
+    Ok(file)
+}
+
 #[test]
 fn lengths_of_lists(rt: HostRuntime) -> Result<(), Fail> {
     for (count, key, told) in LENGTHS {
-        let mut file = format!(in rt.alloc(); "{{\"{key}\":[1")?;
-        for _ in 1..count {
-            file.push_str(",1")?;
-        }
-        file.push_str("]}")?;
-        let answer = shown(rt.alloc(), file.as_str())?;
-        assert_eq!(rt; answer.as_str(), told);
+        let file = listed(rt.alloc(), key, count)?;
+        says(&rt, rt.alloc(), file.as_str(), told)?;
     }
     Ok(())
 }

@@ -1,8 +1,9 @@
-use crate::tests::shown;
+use crate::tests::{begins_so, says};
 use fed_config::{FederateConfig, read_federate};
 use fed_script::{Action, Script, View};
 use std::alloc::Global;
 use std::fmt::Write;
+use std::process::Abort;
 use std::test::Fail;
 
 // Two publications have the name x, of which the first is number 0.
@@ -69,12 +70,16 @@ const REFUSED_LISTS: [(&str, &str); 20] = [
     ),
 ];
 
+// The file of the interfaces above with this behind them.
+fn file_of(alloc: Global, rest: &str) -> Result<String, Fail> {
+    Ok(format!(in alloc; "{HEAD}{rest}}}")?)
+}
+
 #[test]
 fn refused_lists_of_actions(rt: HostRuntime) -> Result<(), Fail> {
     for (rest, told) in REFUSED_LISTS {
-        let file = format!(in rt.alloc(); "{HEAD}{rest}}}")?;
-        let answer = shown(rt.alloc(), file.as_str())?;
-        assert_eq!(rt; answer.as_str(), told, "{rest}");
+        let file = file_of(rt.alloc(), rest)?;
+        says(&rt, rt.alloc(), file.as_str(), told)?;
     }
     Ok(())
 }
@@ -181,14 +186,23 @@ const REFUSED_ACTIONS: [(&str, &str); 59] = [
     (r#""fail","text":1"#, "NotAText /text"),
 ];
 
+// The file of a script of one action.
+fn file_of_one(alloc: Global, action: &str) -> Result<String, Fail> {
+    Ok(format!(in alloc; "{HEAD}\"script\":[{{\"do\":{action}}}]}}")?)
+}
+
+// A cause and the path below the action, as they are told.
+fn in_script(alloc: Global, told: &str) -> Result<String, Fail> {
+    let (cause, path) = told.split_once(' ').ok_or("a cause and a path")?;
+    Ok(format!(in alloc; "{cause} /script/0{path}")?)
+}
+
 #[test]
 fn refused_actions(rt: HostRuntime) -> Result<(), Fail> {
     for (action, told) in REFUSED_ACTIONS {
-        let (cause, path) = told.split_once(' ').ok_or("a cause and a path")?;
-        let file = format!(in rt.alloc(); "{HEAD}\"script\":[{{\"do\":{action}}}]}}")?;
-        let wanted = format!(in rt.alloc(); "{cause} /script/0{path}")?;
-        let answer = shown(rt.alloc(), file.as_str())?;
-        assert_eq!(rt; answer.as_str(), wanted.as_str(), "{action}");
+        let file = file_of_one(rt.alloc(), action)?;
+        let wanted = in_script(rt.alloc(), told)?;
+        says(&rt, rt.alloc(), file.as_str(), wanted.as_str())?;
     }
     Ok(())
 }
@@ -247,12 +261,18 @@ const GIVEN: [(&str, &str); 14] = [
     ),
 ];
 
+// The script of a file has these actions, or the file is refused so.
+fn acts(rt: &impl Abort, alloc: Global, file: &str, told: &str) -> Result<(), Fail> {
+    let answer = actions(alloc, file)?;
+    assert_eq!(rt; answer.as_str(), told, "{file:.200}");
+    Ok(())
+}
+
 #[test]
 fn actions_of_scripts(rt: HostRuntime) -> Result<(), Fail> {
     for (rest, told) in GIVEN {
-        let file = format!(in rt.alloc(); "{HEAD}{rest}}}")?;
-        let answer = actions(rt.alloc(), file.as_str())?;
-        assert_eq!(rt; answer.as_str(), told, "{rest}");
+        let file = file_of(rt.alloc(), rest)?;
+        acts(&rt, rt.alloc(), file.as_str(), told)?;
     }
     Ok(())
 }
@@ -324,25 +344,38 @@ const NESTED: [(u32, u32, &str, &str); 9] = [
     (8, 0, FINISH, "; Finish"),
 ];
 
+// The file of a script of nested repeats.
+fn nested_file(alloc: Global, depth: u32, times: u32, body: &str) -> Result<String, Fail> {
+    let action = nested(alloc, depth, times, body)?;
+    Ok(format!(in alloc; "{{\"script\":[{action}]}}")?)
+}
+
+// What is told, with the place where it is the ninth repeat's.
+fn at_its_place(alloc: Global, told: &str) -> Result<String, Fail> {
+    match told {
+        "TooDeep" | "DoubledKey" => Ok(format!(in alloc; "{told} {NINTH}")?),
+        _ => Ok(String::from_str(alloc, told)?),
+    }
+}
+
 #[test]
 fn repeats_in_repeats(rt: HostRuntime) -> Result<(), Fail> {
     for (depth, times, body, told) in NESTED {
-        let action = nested(rt.alloc(), depth, times, body)?;
-        let file = format!(in rt.alloc(); "{{\"script\":[{action}]}}")?;
-        let answer = actions(rt.alloc(), file.as_str())?;
-        let wanted = match told {
-            "TooDeep" | "DoubledKey" => format!(in rt.alloc(); "{told} {NINTH}")?,
-            _ => String::from_str(rt.alloc(), told)?,
-        };
-        assert_eq!(rt; answer.as_str(), wanted.as_str(), "{depth} {body}");
+        let file = nested_file(rt.alloc(), depth, times, body)?;
+        let wanted = at_its_place(rt.alloc(), told)?;
+        acts(&rt, rt.alloc(), file.as_str(), wanted.as_str())?;
     }
     Ok(())
 }
 
-// One action more than a million, and what stands behind it.
+// The file of a script of a million actions, and what stands behind them.
+fn file_of_a_million(alloc: Global, last: &str) -> Result<String, Fail> {
+    let million = nested(alloc, 1, 1_000_000, FINISH)?;
+    Ok(format!(in alloc; "{{\"script\":[{million},{last}]}}")?)
+}
+
 #[test]
 fn too_many_steps_come_last(rt: HostRuntime) -> Result<(), Fail> {
-    let million = nested(rt.alloc(), 1, 1_000_000, FINISH)?;
     for (last, told) in [
         (r#"{"do":"repeat","times":9,"body":[]}"#, "; Finish"),
         (FINISH, "TooManySteps /script"),
@@ -351,9 +384,8 @@ fn too_many_steps_come_last(rt: HostRuntime) -> Result<(), Fail> {
             "UnknownWord /script/2/do",
         ),
     ] {
-        let file = format!(in rt.alloc(); "{{\"script\":[{million},{last}]}}")?;
-        let answer = actions(rt.alloc(), file.as_str())?;
-        assert_eq!(rt; answer.as_str(), told);
+        let file = file_of_a_million(rt.alloc(), last)?;
+        acts(&rt, rt.alloc(), file.as_str(), told)?;
     }
     Ok(())
 }
@@ -418,16 +450,20 @@ const LONG: [(&str, usize, &str, &str); 11] = [
     ),
 ];
 
+// The file of a script with a text of so many letters.
+fn long_file(alloc: Global, before: &str, count: usize, behind: &str) -> Result<String, Fail> {
+    let text = String::from_utf8(vec![in alloc; b'a'; count]?)?;
+    Ok(format!(in alloc; "{HEAD}\"script\":[{before}{text}{behind}]}}")?)
+}
+
 #[test]
 fn limits_of_texts_and_bytes(rt: HostRuntime) -> Result<(), Fail> {
     for (before, count, behind, told) in LONG {
-        let text = String::from_utf8(vec![in rt.alloc(); b'a'; count]?)?;
-        let file = format!(in rt.alloc(); "{HEAD}\"script\":[{before}{text}{behind}]}}")?;
-        let answer = shown(rt.alloc(), file.as_str())?;
+        let file = long_file(rt.alloc(), before, count, behind)?;
         if told.is_empty() {
-            assert!(rt; answer.starts_with("unnamed ; "), "{before} {count}");
+            begins_so(&rt, rt.alloc(), file.as_str(), "unnamed ; ")?;
         } else {
-            assert_eq!(rt; answer.as_str(), told, "{before} {count}");
+            says(&rt, rt.alloc(), file.as_str(), told)?;
         }
     }
     Ok(())
