@@ -2,6 +2,7 @@ use hel_outside::MemFiles;
 use scenario_reading::{Unread, read_scenario, read_setting};
 use std::alloc::Global;
 use std::fmt::Write;
+use std::process::Abort;
 use std::test::Fail;
 
 // Two federates, A and B, whose files are `a.json` and `b.json`.
@@ -16,23 +17,50 @@ fn untold(alloc: Global, unread: Unread) -> Result<String, Fail> {
     }
 }
 
-// What comes of reading `run.json` and its federates for a run, or to check them.
-fn told(alloc: Global, texts: &[(&str, &str)], to_run: bool) -> Result<String, Fail> {
+// Texts at paths.
+fn files_of(alloc: Global, texts: &[(&str, &str)]) -> Result<MemFiles, Fail> {
     let mut held = Vec::new(alloc);
     for (path, text) in texts {
         held.push((*path, text.as_bytes()))?;
     }
-    let mut files = MemFiles::new(alloc, &held, &[])?;
-    if to_run {
-        return match read_scenario(alloc, &mut files, "run.json") {
-            Ok(scenario) => Ok(format!(in alloc; "{} to run", scenario.scripts.len())?),
-            Err(unread) => untold(alloc, unread),
-        };
+    Ok(MemFiles::new(alloc, &held, &[])?)
+}
+
+fn told_to_run(alloc: Global, files: &mut MemFiles) -> Result<String, Fail> {
+    match read_scenario(alloc, files, "run.json") {
+        Ok(scenario) => Ok(format!(in alloc; "{} to run", scenario.scripts.len())?),
+        Err(unread) => untold(alloc, unread),
     }
-    match read_setting(alloc, &mut files, "run.json") {
+}
+
+fn told_to_check(alloc: Global, files: &mut MemFiles) -> Result<String, Fail> {
+    match read_setting(alloc, files, "run.json") {
         Ok(setting) => Ok(format!(in alloc; "{} read", setting.scripts.len())?),
         Err(unread) => untold(alloc, unread),
     }
+}
+
+// What comes of reading `run.json` and its federates for a run, or to check them.
+fn told(alloc: Global, texts: &[(&str, &str)], to_run: bool) -> Result<String, Fail> {
+    let mut files = files_of(alloc, texts)?;
+    if to_run {
+        told_to_run(alloc, &mut files)
+    } else {
+        told_to_check(alloc, &mut files)
+    }
+}
+
+// Reading says this.
+fn says(
+    rt: &impl Abort,
+    alloc: Global,
+    texts: &[(&str, &str)],
+    to_run: bool,
+    said: &str,
+) -> Result<(), Fail> {
+    let answer = told(alloc, texts, to_run)?;
+    assert_eq!(rt; answer.as_str(), said);
+    Ok(())
 }
 
 // A runner file, and what comes of it.
@@ -93,8 +121,7 @@ const RUNNERS: [(&str, &str); 16] = [
 #[test]
 fn runner_files(rt: HostRuntime) -> Result<(), Fail> {
     for (runner, said) in RUNNERS {
-        let answer = told(rt.alloc(), &[("run.json", runner)], true)?;
-        assert_eq!(rt; answer.as_str(), said, "{runner}");
+        says(&rt, rt.alloc(), &[("run.json", runner)], true, said)?;
     }
     Ok(())
 }
@@ -156,8 +183,7 @@ const FEDERATES: [(&str, &str); 18] = [
 fn federate_files(rt: HostRuntime) -> Result<(), Fail> {
     for (federate, said) in FEDERATES {
         let texts = [("run.json", TWO), ("a.json", federate), ("b.json", "[]")];
-        let answer = told(rt.alloc(), &texts, false)?;
-        assert_eq!(rt; answer.as_str(), said, "{federate}");
+        says(&rt, rt.alloc(), &texts, false, said)?;
     }
     Ok(())
 }
@@ -223,8 +249,7 @@ const BOTH: [(&str, &str, &str); 17] = [
 fn federations(rt: HostRuntime) -> Result<(), Fail> {
     for (first, second, said) in BOTH {
         let texts = [("run.json", TWO), ("a.json", first), ("b.json", second)];
-        let answer = told(rt.alloc(), &texts, true)?;
-        assert_eq!(rt; answer.as_str(), said, "{first} {second}");
+        says(&rt, rt.alloc(), &texts, true, said)?;
     }
     Ok(())
 }
@@ -242,28 +267,41 @@ fn trees_and_checks(rt: HostRuntime) -> Result<(), Fail> {
     ];
     for (runner, second, said) in table {
         let texts = [("run.json", runner), ("a.json", "{}"), ("b.json", second)];
-        let answer = told(rt.alloc(), &texts, false)?;
-        assert_eq!(rt; answer.as_str(), said, "{runner}");
+        says(&rt, rt.alloc(), &texts, false, said)?;
     }
     Ok(())
 }
 
-// What is told where the read of this number fails, how many failed, and the path of the last one.
-fn told_of_fault(alloc: Global, number: u64) -> Result<String, Fail> {
+// Files of which the read of this number fails.
+fn failing(alloc: Global, number: u64) -> Result<MemFiles, Fail> {
     let held = [
         ("d/run.json", TWO.as_bytes()),
         ("d/a.json", "{}".as_bytes()),
         ("d/b.json", "{}".as_bytes()),
     ];
-    let mut files = MemFiles::new(alloc, &held, &[number])?;
-    let read = read_setting(alloc, &mut files, "d/run.json");
-    let answer = match read {
-        Ok(_) => String::from_str(alloc, "read")?,
-        Err(unread) => untold(alloc, unread)?,
-    };
+    Ok(MemFiles::new(alloc, &held, &[number])?)
+}
+
+fn told_of(alloc: Global, files: &mut MemFiles) -> Result<String, Fail> {
+    match read_setting(alloc, files, "d/run.json") {
+        Ok(_) => Ok(String::from_str(alloc, "read")?),
+        Err(unread) => untold(alloc, unread),
+    }
+}
+
+// What is told where the read of this number fails, how many failed, and the path of the last one.
+fn told_of_fault(alloc: Global, number: u64) -> Result<String, Fail> {
+    let mut files = failing(alloc, number)?;
+    let answer = told_of(alloc, &mut files)?;
     let faults = files.faults();
     let path = files.failed_path();
     Ok(format!(in alloc; "{answer}: {faults} at {path}")?)
+}
+
+fn fault_says(rt: &impl Abort, alloc: Global, number: u64, said: &str) -> Result<(), Fail> {
+    let answer = told_of_fault(alloc, number)?;
+    assert_eq!(rt; answer.as_str(), said);
+    Ok(())
 }
 
 // A read that fails keeps its path.
@@ -275,8 +313,7 @@ fn failing_reads(rt: HostRuntime) -> Result<(), Fail> {
         (3, "cannot read d/b.json: 1 at d/b.json"),
     ];
     for (number, said) in table {
-        let answer = told_of_fault(rt.alloc(), number)?;
-        assert_eq!(rt; answer.as_str(), said, "{number}");
+        fault_says(&rt, rt.alloc(), number, said)?;
     }
     Ok(())
 }
@@ -297,40 +334,54 @@ fn repeated(
     Ok(all)
 }
 
-#[test]
-fn past_the_limits(rt: HostRuntime) -> Result<(), Fail> {
-    let alloc = rt.alloc();
-    let inputs = repeated(alloc, r#"{"inputs":["#, "{},", 256, "{}]}")?;
-    let filter =
-        r#"{"source_targets":"A/e","operation":"delay","properties":{"name":"delay","value":1}},"#;
-    let filters = repeated(
-        alloc,
+// A file of A: what stands before and behind a text that is repeated; and what comes of it.
+type Limit = (
+    &'static str,
+    &'static str,
+    usize,
+    &'static str,
+    &'static str,
+);
+
+const LIMITS: [Limit; 3] = [
+    (r#"{"inputs":["#, "{},", 256, "{}]}", "TooManyInterfaces: A"),
+    (
         r#"{"endpoints":[{"name":"e"}],"filters":["#,
-        filter,
+        r#"{"source_targets":"A/e","operation":"delay","properties":{"name":"delay","value":1}},"#,
         8,
         r#"{"source_targets":"A/e","operation":"delay","properties":{"name":"delay","value":1}}]}"#,
-    )?;
-    let repeat = r#"{"do":"repeat","times":1,"body":["#;
-    let deep = repeated(alloc, r#"{"script":["#, repeat, 9, "]}]}]}]}]}]}]}]}]}]}")?;
-    let table = [
-        (inputs.as_str(), "TooManyInterfaces: A"),
-        (filters.as_str(), "ChainTooLong: A/e"),
-        (
-            deep.as_str(),
-            "TooDeep: a.json /script/0/body/0/body/0/body/0/body/0/body/0/body/0/body/0/body/0",
-        ),
+        "ChainTooLong: A/e",
+    ),
+    (
+        r#"{"script":["#,
+        r#"{"do":"repeat","times":1,"body":["#,
+        9,
+        "]}]}]}]}]}]}]}]}]}]}",
+        "TooDeep: a.json /script/0/body/0/body/0/body/0/body/0/body/0/body/0/body/0/body/0",
+    ),
+];
+
+fn is_past(rt: &impl Abort, alloc: Global, limit: &Limit) -> Result<(), Fail> {
+    let (before, text, count, behind, said) = *limit;
+    let first = repeated(alloc, before, text, count, behind)?;
+    let texts = [
+        ("run.json", TWO),
+        ("a.json", first.as_str()),
+        ("b.json", "{}"),
     ];
-    for (first, said) in table {
-        let texts = [("run.json", TWO), ("a.json", first), ("b.json", "{}")];
-        let answer = told(alloc, &texts, false)?;
-        assert_eq!(rt; answer.as_str(), said);
+    says(rt, alloc, &texts, false, said)
+}
+
+#[test]
+fn past_the_limits(rt: HostRuntime) -> Result<(), Fail> {
+    for limit in LIMITS {
+        is_past(&rt, rt.alloc(), &limit)?;
     }
     Ok(())
 }
 
-#[test]
-fn one_federate_too_many(rt: HostRuntime) -> Result<(), Fail> {
-    let alloc = rt.alloc();
+// A runner file of 513 federates.
+fn crowd(alloc: Global) -> Result<String, Fail> {
     let mut runner = String::from_str(alloc, r#"{"federates":["#)?;
     for f in 0..512 {
         write!(
@@ -339,24 +390,27 @@ fn one_federate_too_many(rt: HostRuntime) -> Result<(), Fail> {
         )?;
     }
     runner.push_str(r#"{"name":"last","exec":"$self fed a.json"}]}"#)?;
+    Ok(runner)
+}
+
+#[test]
+fn one_federate_too_many(rt: HostRuntime) -> Result<(), Fail> {
+    let runner = crowd(rt.alloc())?;
     let texts = [("run.json", runner.as_str()), ("a.json", "{}")];
-    let answer = told(alloc, &texts, false)?;
-    assert_eq!(rt; answer.as_str(), "TooManyFederates: last");
-    Ok(())
+    says(&rt, rt.alloc(), &texts, false, "TooManyFederates: last")
+}
+
+// Files of which A's is too large.
+fn with_a_large_file(alloc: Global) -> Result<MemFiles, Fail> {
+    let long = vec![in alloc; b' '; 16_777_217]?;
+    let held = [("run.json", TWO.as_bytes()), ("a.json", long.as_slice())];
+    Ok(MemFiles::new(alloc, &held, &[])?)
 }
 
 #[test]
 fn a_file_that_is_too_large(rt: HostRuntime) -> Result<(), Fail> {
-    let alloc = rt.alloc();
-    let long = vec![in alloc; b' '; 16_777_217]?;
-    let held = [("run.json", TWO.as_bytes()), ("a.json", long.as_slice())];
-    let mut files = MemFiles::new(alloc, &held, &[])?;
-    match read_setting(alloc, &mut files, "run.json") {
-        Ok(_) => assert_eq!(rt; "read", "refused"),
-        Err(unread) => {
-            let answer = untold(alloc, unread)?;
-            assert_eq!(rt; answer.as_str(), "FileTooLarge: a.json");
-        }
-    }
+    let mut files = with_a_large_file(rt.alloc())?;
+    let answer = told_to_check(rt.alloc(), &mut files)?;
+    assert_eq!(rt; answer.as_str(), "FileTooLarge: a.json");
     Ok(())
 }
