@@ -1,10 +1,10 @@
 -- What files tell decides what is printed.
-use Rattle.std.proofs.Common.{◌≡◌, ◌∙◌, ℕ, ◌≤◌, inl, inr, true, false, List, [], ◌∷◌, length, Option, Some, None, Result, Ok, Err, IsSome, refl, sym, ap, subst, arith, String}
+use Rattle.std.proofs.Common.{◌≡◌, ◌∙◌, ℕ, ◌≤◌, ◌<◌, inl, inr, true, false, List, [], ◌∷◌, length, Option, Some, None, Result, Ok, Err, IsSome, refl, sym, ap, subst, arith, String}
 use Rattle.std.specs.Prelude.{is_err, OnOk}
 use Rattle.std.specs.declared.alloc.Global.{Global}
 use Rattle.std.proofs.lemmas.Bool.{false≢true, cases_lt}
 use Rattle.std.proofs.lemmas.Option.{none-some, same_Some}
-use Rattle.hel_outside.specs.Faults.{file_limit}
+use Rattle.hel_outside.specs.Faults.{file_limit, GainsPart}
 use Rattle.interface_names.specs.declared.records.FederateRecord.{FederateRecord}
 use Rattle.dependency_paths.specs.Paths.{AreAncestors}
 use Rattle.dependency_paths.proofs.Ancestry.{ancestor_laws}
@@ -29,9 +29,9 @@ use Rattle.scenario_reading.specs.declared.refusal.Refusal.{Refusal}
 use Rattle.helics_run.specs.declared.printing.Printed.{Printed}
 use Rattle.helics_run.specs.declared.status.Status.{Status}
 use Rattle.helics_run.specs.Printing.{Content, IsRunOf, IsTextOf, PrintsBy, RefusesBy, AsksBy, run_printed}
-use Rattle.helics_run.specs.Command.{texts, Prints, Refuses, TellsAll, Stands}
+use Rattle.helics_run.specs.Command.{texts, HasVerb, Prints, Refuses, TellsAll, Stands}
 use Rattle.helics_run.specs.declared.failure.Failure.{Failure}
-use Rattle.helics_run.specs.declared.failure.Failure.TheVariants.{Refused}
+use Rattle.helics_run.specs.declared.failure.Failure.TheVariants.{FileFault, Refused}
 use Rattle.helics_run.specs.Answers.{Answers, Tells}
 
 -- ---- what is read
@@ -186,6 +186,15 @@ told_stands due status other line wb wa fb fa told same = elim told [
   | inr failed ↦ inr (inl failed.0)
 ]
 
+-- where the sink failed, it gained a part of the line
+pub part_told : (due status : Status) (line : List ℕ) (written_before written_after : Option (List ℕ)) (faults_before faults_after : ℕ) (May : List ℕ → Type 0)
+    → Tells due line status written_before written_after faults_before faults_after → May line → faults_before < faults_after
+    → (told : List ℕ) × May told × GainsPart written_before written_after told
+part_told due status line wb wa fb fa May told may rose = elim told [
+  | inl written ↦ absurd (omega (arith, rose, written.2))
+  | inr failed ↦ (line, may, failed.2)
+]
+
 -- what a call that didn't fail ensures
 pub where_ok : {T E : Type 0} (r : Result T E) (P : Type 0) → is_err r ≡ false → OnOk r P → P
 where_ok (Ok x) P held holds = holds
@@ -201,6 +210,21 @@ pub refusal_made : (content : Content) (words given : List (String Global)) (fai
 refusal_made content words given failure r same is answered =
     let P : List (String Global) → Failure → Type 0 = λ w f. Answers content (texts w) (Err f) in
     subst (λ (f : Failure). P words f) is (subst (λ (w : List (String Global)). P w failure) same answered)
+
+-- words that ask for something begin with one of the program's
+verb_there : (words : List (List ℕ)) (a : Asked) → IsAsked words a → HasVerb words
+verb_there [] a asked = absurd asked
+verb_there (word ∷ rest) a asked = subst (λ (v : Option Verb). IsSome v) (sym asked.0) refl
+
+pub file_verb : (content : Content) (words given : List (String Global)) (failure : Failure) (path : List ℕ) → given ≡ words → failure ≡ FileFault path
+    → Answers content (texts given) (Err failure) → HasVerb (texts words)
+file_verb content words given failure path same is answered =
+    let P : List (String Global) → Failure → Type 0 = λ w f. Answers content (texts w) (Err f) in
+    let asks = subst (λ (f : Failure). P words f) is (subst (λ (w : List (String Global)). P w failure) same answered) in
+    verb_there (texts words) asks.0 asks.1
+
+pub refusal_verb : (content : Content) (words : List (List ℕ)) (r : Refusal) → Refuses content words r → HasVerb words
+refusal_verb content words r refuses = verb_there words refuses.0 refuses.1
 
 -- so what is told decides the status
 pub decided_by : (content : Content) (words : List (List ℕ)) (p q : Printed) (status : Status) → TellsAll content words → Prints content words p → Prints content words q → Stands p.status status → Stands q.status status

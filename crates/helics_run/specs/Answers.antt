@@ -1,6 +1,6 @@
 -- What the parts of the program answer.
 use Rattle.std.specs.Prelude.{ℕ, ◌≡◌, ◌⊎◌, List, Option, Result, Ok, Err}
-use Rattle.hel_outside.specs.Faults.{Rose, Gains}
+use Rattle.hel_outside.specs.Faults.{Rose, Gains, GainsPart}
 use Rattle.command_words.specs.declared.Verb.{Verb}
 use Rattle.command_words.specs.declared.WordsRefusal.{WordsRefusal}
 use Rattle.command_words.specs.declared.WordsRefusal.TheVariants as words
@@ -11,6 +11,7 @@ use Rattle.helics_run.specs.declared.failure.Failure.TheVariants.{BadWords, File
 use Rattle.helics_run.specs.declared.status.Status.{Status}
 use Rattle.helics_run.specs.declared.status.Status.TheVariants.{SinkFault}
 use Rattle.helics_run.specs.declared.printing.Printed.{Printed}
+use Rattle.helics_run.specs.Lines.{error_line, bad_words, cannot_read, cannot_write, out_of_memory, refused}
 use Rattle.helics_run.specs.Printing.{Content, PrintsBy, RefusesBy, AsksBy}
 use Rattle.helics_run.specs.Command.{HasVerb, AskFor, Prints, Refuses, AsksAt}
 
@@ -45,8 +46,21 @@ abbrev pub CountsFaults : {X : Type 0} → Result X Failure → ℕ → ℕ → 
 CountsFaults (Err (FileFault path)) before after failed_path = Rose before after × (failed_path ≡ path)
 CountsFaults result before after failed_path = after ≡ before
 
--- the sink gained the line and the status is this one, or the sink failed
+-- the sink gained the line and the status is this one, or the sink failed and gained no more than a part of it
 abbrev pub Tells : Status → List ℕ → Status → Option (List ℕ) → Option (List ℕ) → ℕ → ℕ → Type 0
 Tells due line status written_before written_after faults_before faults_after =
     ((status ≡ due) × Gains written_before written_after line × (faults_after ≡ faults_before))
-    ⊎ ((status ≡ SinkFault) × Rose faults_before faults_after)
+    ⊎ ((status ≡ SinkFault) × Rose faults_before faults_after × GainsPart written_before written_after line)
+
+-- the line that tells an answer, or nothing
+abbrev pub line_of : Result Printed Failure → List ℕ
+line_of (Ok p) = p.err
+line_of (Err BadWords) = error_line bad_words
+line_of (Err (FileFault path)) = error_line (cannot_read path)
+line_of (Err (Refused refusal)) = error_line (refused refusal)
+line_of (Err OutOfMemory) = error_line out_of_memory
+
+-- a line that these words may bring: of an answer to them, or that it can't be written
+abbrev pub MayTell : Content → List (List ℕ) → List ℕ → Type 0
+MayTell content words line =
+    (line ≡ error_line cannot_write) ⊎ ((answer : Result Printed Failure) × Answers content words answer × (line ≡ line_of answer))

@@ -4,9 +4,8 @@ use Rattle.std.specs.Option.{option_map_or}
 use Rattle.json.specs.Print.{quoted}
 use Rattle.interface_names.specs.declared.records.FederateRecord.{FederateRecord}
 use Rattle.machine_laws.specs.declared.logs.FedLog.{FedLog}
-use Rattle.machine_laws.specs.declared.logs.LogEnd.{LogEnd}
-use Rattle.machine_laws.specs.declared.logs.LogEnd.TheVariants.{Ended, FailedText, Open}
 use Rattle.federation_plan.specs.Interfaces.{federate_at}
+use Rattle.one_place.specs.Members.{text_of as failure_text}
 use Rattle.scenario_reading.specs.Refusals.{text_of}
 use Rattle.scenario_reading.specs.declared.refusal.Refusal.{Refusal}
 
@@ -33,12 +32,7 @@ out_of_memory = codes "out of memory"
 abbrev pub refused : Refusal → List ℕ
 refused refusal = codes "refused: " ++ text_of refusal
 
--- the text of a failure
-abbrev pub failure_text : LogEnd → List ℕ
-failure_text (FailedText text) = text
-failure_text (Ended cause) = []
-failure_text (Open phase) = []
-
+-- the text with which the federate of a number failed
 abbrev pub failure_at : List FedLog → ℕ → List ℕ
 failure_at logs f = option_map_or (λ (l : FedLog). failure_text l.end) (slice_get logs f) []
 

@@ -5,7 +5,7 @@ ghost use Rattle.scenario_reading.specs.declared.refusal.Refusal.{Refusal};
 ghost use Rattle.helics_run.specs.declared.printing.Printed.{Printed as Printing};
 ghost use Rattle.helics_run.specs.Lines.{error_line, bad_words, cannot_read, cannot_write, out_of_memory, refused};
 ghost use Rattle.helics_run.specs.Command.{texts, HasVerb, AskFor, Prints, Refuses, AsksAt, IsPlanAt, NoneWait, TellsAll, IsPrinting, IsLater, Stands};
-ghost use Rattle.helics_run.specs.Answers.{Answers, CountsFaults, Tells};
+ghost use Rattle.helics_run.specs.Answers.{Answers, CountsFaults, Tells, MayTell};
 
 use crate::failure::Failure;
 use crate::line::{BAD_WORDS, CANNOT_WRITE, OUT_OF_MEMORY, cannot_read_line, refused_line};
@@ -29,7 +29,7 @@ fn answer<F: Files>(alloc: Global, words: &[String], files: &mut F) -> Result<Pr
     }
 }
 
-/// Writes a line, and ends with the status where that doesn't fail.
+/// Writes a line, and ends with the status where that doesn't fail. Where it fails, no more is written.
 pub fn tell<E: Sink>(err: &mut E, status: Status, line: &str) -> Status
     ensures { Tells status line.now result (E.written err.old) (E.written err.new) (E.faults err.old) (E.faults err.new) }
 {
@@ -96,6 +96,9 @@ pub fn command<F: Files, O: Sink, E: Sink>(
         ⊎ ((p : Printing) × (Prints (F.content files.old) (texts words.now.items) p
         × (GainsPart (O.written out.old) (O.written out.new) p.out
         ⊎ (Gains (O.written out.old) (O.written out.new) p.out × Rose (E.faults err.old) (E.faults err.new))))) }
+    // Where `err` failed, it gained a first part of one line, and not all of it.
+    ensures part_of_err { E.faults err.old < E.faults err.new → (line : List ℕ)
+        × MayTell (F.content files.old) (texts words.now.items) line × GainsPart (E.written err.old) (E.written err.new) line }
     ensures same_files { (path : List ℕ) → F.content files.new path ≡ F.content files.old path }
 
     // The others don't come.

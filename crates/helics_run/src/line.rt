@@ -2,7 +2,8 @@
 ghost use Rattle.std.specs.Prelude.{◌≡◌, IfOk, string_bytes};
 ghost use Rattle.json.specs.Print.{quoted};
 ghost use Rattle.federation_plan.specs.Interfaces.{federate_at};
-ghost use Rattle.helics_run.specs.Lines.{error_line, cannot_read, refused, failure_text, failure_at, halted_by};
+ghost use Rattle.helics_run.specs.Lines.{error_line, cannot_read, refused, failure_at, halted_by};
+ghost use Rattle.one_place.specs.Members.{text_of as failure_text};
 
 use hel_lists::{OutOfMemory, Text};
 use interface_names::FederateRecord;

@@ -1,6 +1,9 @@
-use Rattle.std.proofs.Common.{◌∙◌, sym, inl, inr, refl, subst, List, ℕ}
+use Rattle.std.proofs.Common.{◌∙◌, sym, inl, inr, refl, subst, List, ℕ, Err}
 use Rattle.hel_outside.specs.Faults.{Gains}
-use Rattle.helics_run.proofs.Once.{print_made, refusal_made, decided_by, not_both, told_stands, where_ok}
+use Rattle.helics_run.specs.Command.{texts}
+use Rattle.helics_run.specs.Answers.{MayTell}
+use Rattle.helics_run.specs.declared.failure.Failure.TheVariants.{OutOfMemory}
+use Rattle.helics_run.proofs.Once.{print_made, refusal_made, file_verb, refusal_verb, decided_by, not_both, told_stands, part_told, where_ok}
 use Rattle.helics_run.proofs.Stuck.{stuck_prints, whole_prints, sink_prints, sink_not_stuck}
 use Rattle.helics_run.proofs.command.command.Goals as goal
 
@@ -53,3 +56,14 @@ returns-in-Ok-refused_line-clause-decided g c = λ tells p prints.
 pub returns-in-Ok-refused_line-clause-complete : goal.returns-in-Ok-refused_line-clause-complete
 returns-in-Ok-refused_line-clause-complete g c = λ asks quiet none quiet_out quiet_err.
     absurd (none c.in-Err-Refused.refusal (refusal_made _ c.args.words.now.items _ _ c.in-Err-Refused.refusal c.deref.ensures.value c.in-Err-Refused.field-0-is c.in-Err-Refused.ensures.answers))
+
+-- without memory for a line it is told that there was none
+pub returns-in-Err-FileFault-clause-part_of_err : goal.returns-in-Err-FileFault-clause-part_of_err
+returns-in-Err-FileFault-clause-part_of_err g c = λ rose.
+    let verb = file_verb _ c.args.words.now.items _ _ _ c.deref.ensures.value c.in-Err-FileFault.field-0-is c.in-Err-FileFault.ensures.answers in
+    part_told _ _ _ _ _ _ _ (MayTell (g.F.Files.content c.args.files.now) (texts c.args.words.now.items)) c.tell-in-Err.ensures (inr (Err OutOfMemory, verb, refl)) rose
+
+pub returns-in-Err-Refused-clause-part_of_err : goal.returns-in-Err-Refused-clause-part_of_err
+returns-in-Err-Refused-clause-part_of_err g c = λ rose.
+    let refuses = refusal_made _ c.args.words.now.items _ _ c.in-Err-Refused.refusal c.deref.ensures.value c.in-Err-Refused.field-0-is c.in-Err-Refused.ensures.answers in
+    part_told _ _ _ _ _ _ _ (MayTell (g.F.Files.content c.args.files.now) (texts c.args.words.now.items)) c.tell-in-Err-refused_line.ensures (inr (Err OutOfMemory, refusal_verb _ _ _ refuses, refl)) rose
