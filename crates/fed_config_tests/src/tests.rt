@@ -320,7 +320,7 @@ fn named(alloc: Global, count: usize) -> Result<String, Fail> {
 
 pub fn begins_so(rt: &impl Abort, alloc: Global, file: &str, told: &str) -> Result<(), Fail> {
     let answer = shown(alloc, file)?;
-    assert!(rt; answer.starts_with(told), "{file:.200}");
+    assert!(rt; answer.starts_with(told), "{answer:.200}");
     Ok(())
 }
 
