@@ -6,8 +6,7 @@ use Rattle.std.proofs.lemmas.Bool.{cases_Bool, true≢false, false≢true}
 use Rattle.std.proofs.lemmas.Bool.Decides.{nat_tests}
 use Rattle.hel_lists.specs.Members.{IsIn, Each}
 use Rattle.hel_lists.proofs.Members.{in_filter, filter_holds, filter_fails}
-use Rattle.due_queue.specs.Sorted.{IsWeakOrder}
-use Rattle.due_queue.proofs.Sorted.{in_insert_by, insert_by_first, insert_by_later, insert_by_front, filter_in_order, before_each, insert_by_in_order}
+use Rattle.due_queue.proofs.Sorted.{IsWeakOrder, in_insert_by, insert_by_first, insert_by_later, insert_by_front, filter_in_order, before_each, insert_by_in_order}
 use Rattle.due_queue.specs.Item.{Parcel}
 use Rattle.due_queue.specs.Order.{key, due_key, lex, is_sooner, comes_before, insert, insert_all, InOrder}
 
@@ -110,11 +109,6 @@ comes_before_order = record { one_way = λ i j. lex_one_way (key i) (key j); pas
 pub is_sooner_order : IsWeakOrder is_sooner
 unfolding is_sooner
 is_sooner_order = record { one_way = λ i j. lex_one_way (due_key i) (due_key j); past = λ i x y. lex_past (due_key i) (due_key x) (due_key y) }
-
--- none comes before itself
-pub before_same : (i : Parcel) → comes_before i i ≡ false
-unfolding comes_before
-before_same i = lex_same (key i)
 
 -- what comes before an item comes before all that this one comes before
 pub before_trans : (i j k : Parcel) → comes_before i j ≡ true → comes_before j k ≡ true → comes_before i k ≡ true

@@ -5,7 +5,13 @@ use Rattle.std.specs.List.{filter}
 use Rattle.std.proofs.lemmas.Bool.{cases_Bool}
 use Rattle.hel_lists.specs.Members.{IsIn, Each}
 use Rattle.hel_lists.proofs.Members.{in_filter}
-use Rattle.due_queue.specs.Sorted.{IsWeakOrder, IsInOrder, insert_by}
+use Rattle.due_queue.specs.Sorted.{IsInOrder, insert_by}
+
+-- a test that puts into order, where those that aren't before one another share a place
+pub record IsWeakOrder {A : Type 0} (before : A → A → Bool) : Type 0 where
+  pub one_way : (i j : A) → before i j ≡ true → before j i ≡ false
+  -- what comes before x comes before what doesn't come before x
+  pub past : (i x y : A) → before i x ≡ true → before y x ≡ false → before i y ≡ true
 
 module _ {A : Type 0} (before : A → A → Bool) where
   -- who stands in a list with one more is that one or stood there

@@ -2,8 +2,7 @@
 use Rattle.std.specs.Prelude.{ℕ, Bool, false, ◌==◌, ◌&&◌}
 use Rattle.std.specs.Str.{bytes_eq}
 use Rattle.helics_time.specs.Stamp.{At, at_most}
-use Rattle.hel_values.specs.declared.EndRef.{EndRef}
-use Rattle.hel_values.specs.Values.{same_value}
+use Rattle.hel_values.specs.Values.{same_value, same_end}
 use Rattle.due_queue.specs.declared.item.Message.{Message as MessageRecord}
 use Rattle.due_queue.specs.declared.item.Content.{Content}
 use Rattle.due_queue.specs.declared.item.Content.TheVariants.{Value, Message}
@@ -34,9 +33,6 @@ abbrev pub is_made_by : ℕ → ℕ → Parcel → Bool
 is_made_by source seq i = i.source == source && i.seq == seq
 
 -- whether two are the same
-abbrev pub same_end : EndRef → EndRef → Bool
-same_end a b = a.fed == b.fed && a.index == b.index
-
 abbrev pub same_message : MessageRecord → MessageRecord → Bool
 same_message a b =
     same_end a.source b.source && same_end a.original_source b.original_source && same_end a.destination b.destination

@@ -2,20 +2,13 @@
 use Rattle.std.proofs.Common.{◌≡◌, ap}
 use Rattle.std.specs.Bool.{Decides}
 use Rattle.std.proofs.lemmas.Bool.{false≢true}
-use Rattle.std.proofs.lemmas.Bool.Decides.{Decides-eqb, Decides-and, Decides-like}
+use Rattle.std.proofs.lemmas.Bool.Decides.{Decides-eqb, Decides-and}
 use Rattle.std.proofs.lemmas.Slice.Eq.{bytes_eq-Decides}
-use Rattle.hel_values.specs.declared.EndRef.{EndRef}
-use Rattle.hel_values.specs.Sameness.{same_value-Decides}
+use Rattle.hel_values.specs.Sameness.{same_value-Decides, same_end-Decides}
 use Rattle.due_queue.specs.declared.item.Message.{Message as MessageRecord}
 use Rattle.due_queue.specs.declared.item.Content.{Content}
 use Rattle.due_queue.specs.declared.item.Content.TheVariants.{Value, Message}
-use Rattle.due_queue.specs.Item.{Parcel, same_end, same_message, same_content, same_parcel}
-
--- of two references to interfaces
-pub same_end-Decides : (a b : EndRef) → Decides (same_end a b) (a ≡ b)
-same_end-Decides a b =
-    Decides-like _ (λ both. λ k. record { fed = both.0 k; index = both.1 k }) (λ e. (ap (λ (c : EndRef). c.fed) e, ap (λ (c : EndRef). c.index) e))
-    (Decides-and _ _ (Decides-eqb a.fed b.fed) (Decides-eqb a.index b.index))
+use Rattle.due_queue.specs.Item.{Parcel, same_message, same_content, same_parcel}
 
 -- of two messages
 pub same_message-Decides : (a b : MessageRecord) → Decides (same_message a b) (a ≡ b)

@@ -1,12 +1,6 @@
 -- Lists in an order in which several may share a place.
-use Rattle.std.specs.Prelude.{◌≡◌, Bool, true, false, if◌then◌else◌, List, [], ◌∷◌}
+use Rattle.std.specs.Prelude.{◌≡◌, Bool, false, if◌then◌else◌, List, [], ◌∷◌}
 use Rattle.hel_lists.specs.Members.{Each}
-
--- a test that puts into order, where those that aren't before one another share a place
-pub record IsWeakOrder {A : Type 0} (before : A → A → Bool) : Type 0 where
-  pub one_way : (i j : A) → before i j ≡ true → before j i ≡ false
-  -- what comes before x comes before what doesn't come before x
-  pub past : (i x y : A) → before i x ≡ true → before y x ≡ false → before i y ≡ true
 
 -- none comes before one that stands ahead of it
 abbrev pub IsInOrder : {A : Type 0} → (A → A → Bool) → List A → Type 0

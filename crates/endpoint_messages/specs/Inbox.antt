@@ -1,12 +1,7 @@
 -- What the calls of an inbox answer and do.
-use Rattle.std.specs.Prelude.{◌≡◌, ◌+◌, List, [], ◌∷◌, Option, Some, None}
+use Rattle.std.specs.Prelude.{◌≡◌, ◌+◌, [], ◌∷◌, Option, Some, None}
 use Rattle.endpoint_messages.specs.declared.Letter.{Letter}
 use Rattle.endpoint_messages.specs.Mail.{Mail}
-
--- the oldest, if there is one
-abbrev pub first_of : List Letter → Option Letter
-first_of [] = None
-first_of (letter ∷ letters) = Some letter
 
 -- the oldest goes, and leaves its room; or there is none
 abbrev pub Takes : Mail → Option Letter → Mail → Type 0

@@ -1,8 +1,8 @@
 //! Messages that reached an endpoint, first in first out.
 #![tactic(auto)]
 
-ghost use Rattle.std.specs.Prelude.{◌≡◌, ◌≤◌, ◌<◌, ◌+◌, [], ◌∷◌, ◌++◌, ◌↔◌, length, IsTrue, OnOk, OnErr, option_copied};
-ghost use Rattle.endpoint_messages.specs.Inbox.{first_of, Takes};
+ghost use Rattle.std.specs.Prelude.{◌≡◌, ◌≤◌, ◌<◌, ◌+◌, [], ◌∷◌, ◌++◌, ◌↔◌, length, slice_get, IsTrue, OnOk, OnErr, option_copied};
+ghost use Rattle.endpoint_messages.specs.Inbox.{Takes};
 
 use hel_lists::{OutOfMemory, Text};
 use hel_values::Payload;
@@ -67,7 +67,7 @@ impl Inbox {
 
     /// The oldest letter, which stays: `None` exactly where there is none.
     pub fn first(&self) -> Option<&Letter>
-        ensures { option_copied result ≡ first_of self.now.letters }
+        ensures { option_copied result ≡ slice_get self.now.letters 0 }
     {
         self.letters.front()
     }

@@ -9,11 +9,8 @@ use Rattle.helics_time.specs.Time.{max_time, longest_span}
 use Rattle.json_reading.specs.Keys.{Member, member_at}
 use Rattle.json_reading.specs.Reading.{Read, ◌>>=◌, here, under, at_optional, at_needed, needed_at, each_from, item_count, few_items, list_up_to}
 use Rattle.json_reading.specs.declared.refusal.ConfigCause.TheVariants.{OutOfRange}
-use Rattle.json_reading.specs.Leaves.{at_most, time_up_to, whole_between}
+use Rattle.json_reading.specs.Leaves.{time_up_to, whole_between}
 use Rattle.fed_config.specs.Federate.{most_items, setting_at, iterations_at, list_at}
-
-most_within : (most n t : ℕ) → at_most most n ≡ Ok t → t ≤ most
-most_within most n t e = grind (arith, common_steps)
 
 time_within : (most : ℕ) (d : Data) (t : ℕ) → time_up_to most d ≡ Ok t → t ≤ most
 time_within most d t e = grind (arith, common_steps)

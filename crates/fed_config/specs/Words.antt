@@ -1,5 +1,5 @@
 -- The words that stand for kinds of values and for what a filter does.
-use Rattle.std.specs.Prelude.{ℕ, List, [], ◌∷◌, codes, Option, Some, None, ok_or}
+use Rattle.std.specs.Prelude.{ℕ, List, [], ◌∷◌, ◌++◌, map, codes, Option, Some, None, ok_or}
 use Rattle.std.specs.Map.{lookup}
 use Rattle.std.specs.Str.{bytes_eq}
 use Rattle.serde_json.specs.Data.{Data}
@@ -31,15 +31,7 @@ kinds =
 
 -- the kinds that an input may take; none is any
 abbrev pub input_kinds : List (List ℕ × Option ValueKind)
-input_kinds =
-    (codes "int", Some Int)
-    ∷ (codes "int64", Some Int)
-    ∷ (codes "integer", Some Int)
-    ∷ (codes "string", Some Text)
-    ∷ (codes "raw", Some Bytes)
-    ∷ (codes "bytes", Some Bytes)
-    ∷ (codes "any", None)
-    ∷ []
+input_kinds = map (λ row. (row.0, Some row.1)) kinds ++ (codes "any", None) ∷ []
 
 abbrev pub operations : List (List ℕ × Operation)
 operations =

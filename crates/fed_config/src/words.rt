@@ -30,12 +30,10 @@ fn kind_named(word: &str) -> Option<ValueKind>
 fn input_kind_named(word: &str) -> Option<Option<ValueKind>>
     ensures { result ≡ named_in input_kinds word.now }
 {
-    match word {
-        "int" | "int64" | "integer" => Some(Some(ValueKind::Int)),
-        "string" => Some(Some(ValueKind::Text)),
-        "raw" | "bytes" => Some(Some(ValueKind::Bytes)),
-        "any" => Some(None),
-        _ => None,
+    match kind_named(word) {
+        Some(kind) => Some(Some(kind)),
+        None if word == "any" => Some(None),
+        None => None,
     }
 }
 

@@ -6,13 +6,8 @@ use Rattle.std.proofs.lemmas.List.{length-set, get_or-set_same, get_or-set_other
 use Rattle.std.proofs.lemmas.List.Sums.{sum_by-cons}
 use Rattle.std.proofs.lemmas.Option.{none-some, same_Some}
 use Rattle.endpoint_messages.specs.declared.Letter.{Letter}
-use Rattle.endpoint_messages.specs.Inbox.{first_of}
 use Rattle.endpoint_messages.specs.Mail.{Mail}
 use Rattle.fed_script.specs.Room.{letters_of, no_mail, count_for, HasRoom, holding, with_letter}
-
-pub first_of-head : (letters : List Letter) → first_of letters ≡ slice_get letters 0
-first_of-head [] = refl
-first_of-head (letter ∷ letters) = refl
 
 pub letters_past : (mails : List Mail) (n : ℕ) → slice_get mails n ≡ None → get_or (letters_of mails) n [] ≡ []
 letters_past [] n none = refl
@@ -38,10 +33,6 @@ pub count_for_other : (n e : ℕ) (letter : Letter) (letters : List (ℕ × Lett
 count_for_other n e letter letters other =
     let none : eqb n e ≡ false = ne_eqb n e other in
     sum_by-cons (λ (l : ℕ × Letter). cond (eqb l.0 e) 1 0) (n, letter) letters ∙ ap (λ b. cond b 1 0 + count_for e letters) none ∙ omega arith
-
--- there is room for the first of the letters
-pub has_room_first : (mails : List Mail) (n : ℕ) (letter : Letter) (letters : List (ℕ × Letter)) → HasRoom mails ((n, letter) ∷ letters) → n < length mails → 0 < (get_or mails n no_mail).spare
-has_room_first mails n letter letters room within = let r = room n within in let e = count_for_same n letter letters in omega arith
 
 -- and then for the others
 pub has_room_after : (mails : List Mail) (n : ℕ) (letter : Letter) (letters : List (ℕ × Letter)) → HasRoom mails ((n, letter) ∷ letters) → HasRoom (with_letter mails n letter) letters

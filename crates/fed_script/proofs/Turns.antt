@@ -21,15 +21,15 @@ ended (v ∷ views) = ap (λ (acts : List Action). finishes ∷ acts) (ended vie
 pub words_in_turn : WordsInTurn
 words_in_turn words [] none = refl
 words_in_turn [] (v ∷ views) none = ended (v ∷ views)
-words_in_turn (Echo endpoint ∷ words) (v ∷ views) none = absurd none
-words_in_turn (Publish publication value ∷ words) (v ∷ views) none = ap (λ (acts : List Action). first_action (Publish publication value ∷ words) v ∷ acts) (words_in_turn words views none)
-words_in_turn (PublishSum publication input add ∷ words) (v ∷ views) none = ap (λ (acts : List Action). first_action (PublishSum publication input add ∷ words) v ∷ acts) (words_in_turn words views none)
-words_in_turn (Send endpoint destination payload ∷ words) (v ∷ views) none = ap (λ (acts : List Action). first_action (Send endpoint destination payload ∷ words) v ∷ acts) (words_in_turn words views none)
-words_in_turn (Request time ∷ words) (v ∷ views) none = ap (λ (acts : List Action). first_action (Request time ∷ words) v ∷ acts) (words_in_turn words views none)
-words_in_turn (Advance by ∷ words) (v ∷ views) none = ap (λ (acts : List Action). first_action (Advance by ∷ words) v ∷ acts) (words_in_turn words views none)
-words_in_turn (Iterate time mode ∷ words) (v ∷ views) none = ap (λ (acts : List Action). first_action (Iterate time mode ∷ words) v ∷ acts) (words_in_turn words views none)
-words_in_turn (Finish ∷ words) (v ∷ views) none = ap (λ (acts : List Action). first_action (Finish ∷ words) v ∷ acts) (words_in_turn words views none)
-words_in_turn (Fail text ∷ words) (v ∷ views) none = ap (λ (acts : List Action). first_action (Fail text ∷ words) v ∷ acts) (words_in_turn words views none)
+words_in_turn (Echo endpoint ∷ words) (v ∷ views) none = absurd (false≢true (sym none.0))
+words_in_turn (Publish publication value ∷ words) (v ∷ views) none = ap (λ (acts : List Action). first_action (Publish publication value ∷ words) v ∷ acts) (words_in_turn words views none.1)
+words_in_turn (PublishSum publication input add ∷ words) (v ∷ views) none = ap (λ (acts : List Action). first_action (PublishSum publication input add ∷ words) v ∷ acts) (words_in_turn words views none.1)
+words_in_turn (Send endpoint destination payload ∷ words) (v ∷ views) none = ap (λ (acts : List Action). first_action (Send endpoint destination payload ∷ words) v ∷ acts) (words_in_turn words views none.1)
+words_in_turn (Request time ∷ words) (v ∷ views) none = ap (λ (acts : List Action). first_action (Request time ∷ words) v ∷ acts) (words_in_turn words views none.1)
+words_in_turn (Advance by ∷ words) (v ∷ views) none = ap (λ (acts : List Action). first_action (Advance by ∷ words) v ∷ acts) (words_in_turn words views none.1)
+words_in_turn (Iterate time mode ∷ words) (v ∷ views) none = ap (λ (acts : List Action). first_action (Iterate time mode ∷ words) v ∷ acts) (words_in_turn words views none.1)
+words_in_turn (Finish ∷ words) (v ∷ views) none = ap (λ (acts : List Action). first_action (Finish ∷ words) v ∷ acts) (words_in_turn words views none.1)
+words_in_turn (Fail text ∷ words) (v ∷ views) none = ap (λ (acts : List Action). first_action (Fail text ∷ words) v ∷ acts) (words_in_turn words views none.1)
 
 -- what calls give and leave depends on the words that give something alone
 from_given : (n : ℕ) (some more : List Word) (v : Sight) → given_from some v ≡ given_from more v → actions_from n some v ≡ actions_from n more v

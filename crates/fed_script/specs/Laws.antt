@@ -1,16 +1,15 @@
 -- What scripts give, one action after another.
-use Rattle.std.specs.Prelude.{ℕ, zero, suc, ◌+◌, ◌<◌, ◌≡◌, ◌≢◌, ◌⊎◌, unwrap_or, List, [], ◌∷◌, ◌++◌, map, length, slice_set, sum_by}
+use Rattle.std.specs.Prelude.{ℕ, zero, suc, ◌+◌, ◌<◌, ◌≡◌, ◌≢◌, ◌⊎◌, false, unwrap_or, List, [], ◌∷◌, ◌++◌, map, length, slice_set, sum_by}
+use Rattle.std.specs.List.{AllByRecursion}
 use Rattle.fed_script.specs.declared.action.Action.{Action}
 use Rattle.fed_script.specs.declared.action.Action.TheVariants.{Finish as finishes}
 use Rattle.fed_script.specs.declared.word.Word.{Word}
 use Rattle.fed_script.specs.declared.word.Word.TheVariants.{Echo}
 use Rattle.fed_script.specs.View.{Sight, letters_at}
-use Rattle.fed_script.specs.Script.{action_of, answer_to, next_action, words_after, view_after}
+use Rattle.fed_script.specs.Script.{action_of, answer_to, is_echo, next_action, words_after, view_after}
 
 abbrev pub HasNoEcho : List Word → Type 0
-HasNoEcho [] = Unit {0}
-HasNoEcho (Echo endpoint ∷ words) = ⊥
-HasNoEcho (word ∷ words) = HasNoEcho words
+HasNoEcho words = AllByRecursion (λ word. is_echo word ≡ false) words
 
 -- the actions that calls give one after another, each over the view given there
 abbrev pub actions_over : List Word → List Sight → List Action

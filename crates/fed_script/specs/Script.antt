@@ -1,5 +1,5 @@
 -- What a script gives over what its federate sees.
-use Rattle.std.specs.Prelude.{ℕ, ◌+◌, ◌≤◌, min, ◌+ℤ◌, Bool, true, false, if◌then◌else◌, Option, Some, None, is_some, unwrap_or, List, [], ◌∷◌}
+use Rattle.std.specs.Prelude.{ℕ, ◌+◌, ◌≤◌, min, ◌+ℤ◌, Bool, true, false, if◌then◌else◌, Option, Some, is_some, unwrap_or, option_map, slice_get, List, [], ◌∷◌}
 use Rattle.std.specs.Int.{w64, saturate_signed}
 use Rattle.std.specs.List.{AllByRecursion}
 use Rattle.helics_time.specs.Time.{max_time}
@@ -25,8 +25,7 @@ answer_to endpoint letter = sends endpoint letter.source letter.payload
 
 -- the answer to the oldest letter, if there is one
 abbrev pub echo_of : ℕ → List Letter → Option Action
-echo_of endpoint [] = None
-echo_of endpoint (letter ∷ letters) = Some (answer_to endpoint letter)
+echo_of endpoint letters = option_map (answer_to endpoint) (slice_get letters 0)
 
 -- what a word gives: an echo of an empty inbox gives nothing
 abbrev pub action_of : Sight → Word → Option Action

@@ -1,7 +1,7 @@
 -- What stands at an interface, once those that name it are put there one after another.
-use Rattle.std.proofs.Common.{◌≡◌, ◌⊎◌, inl, inr, ℕ, ◌+◌, ◌-◌, ◌<◌, ◌≤◌, Bool, true, false, List, [], ◌∷◌, ◌++◌, length, get_or, take, drop, arith, refl, sym, ◌∙◌, ap, subst, Option, Some, append_assoc, append-nil, length-append, eq-eqb}
-use Rattle.std.specs.Prelude.{if◌then◌else◌, ◌||◌, nat_eq, slice_get}
-use Rattle.std.proofs.lemmas.Bool.{cases_Bool, cases_lt, true≢false, and_from, and_parts, eqb-true}
+use Rattle.std.proofs.Common.{◌≡◌, ◌⊎◌, inl, inr, ℕ, ◌+◌, ◌-◌, ◌<◌, ◌≤◌, Bool, true, false, List, [], ◌∷◌, ◌++◌, length, get_or, take, drop, arith, refl, sym, ◌∙◌, ap, subst, Option, Some, append_assoc, append-nil, length-append}
+use Rattle.std.specs.Prelude.{if◌then◌else◌, ◌||◌, slice_get}
+use Rattle.std.proofs.lemmas.Bool.{cases_Bool, cases_lt, true≢false}
 use Rattle.std.proofs.lemmas.List.Folds.{list_any_more}
 use Rattle.std.proofs.lemmas.Option.{slice_get-get_or, slice_get_past}
 use Rattle.interface_names.specs.declared.records.FederateRecord.{FederateRecord}
@@ -9,21 +9,19 @@ use Rattle.hel_lists.proofs.Members.{filter_holds, filter_fails, at_in}
 use Rattle.std.proofs.Math.Seq.{get_or-append_seam}
 use Rattle.hel_lists.specs.Members.{IsIn}
 use Rattle.hel_values.specs.declared.EndRef.{EndRef}
-use Rattle.federation_plan.specs.Interfaces.{Interface, one_in, interfaces_in, interfaces_from, same_ref, is_ref, name_ref, refs_naming}
+use Rattle.hel_values.specs.Values.{same_end}
+use Rattle.hel_values.specs.Sameness.{same_end-Decides}
+use Rattle.federation_plan.specs.Interfaces.{Interface, one_in, interfaces_in, interfaces_from, is_ref, name_ref, refs_naming}
 use Rattle.federation_plan.specs.Tables.{entry, ends_with, with_last}
 use Rattle.federation_plan.proofs.Lists.{in_append}
 use Rattle.federation_plan.proofs.Named.{rest_in, rest_from, none_in, none_from}
 
 -- a reference is the same as itself, and as no other
-pub same_itself : (r : EndRef) → same_ref r r ≡ true
-same_itself r = and_from (nat_eq r.fed r.fed) (nat_eq r.index r.index) (eq-eqb r.fed r.fed refl) (eq-eqb r.index r.index refl)
+pub same_itself : (r : EndRef) → same_end r r ≡ true
+same_itself r = (same_end-Decides r r).1 refl
 
-pub same_is : (r q : EndRef) → same_ref r q ≡ true → r ≡ q
-same_is r q same =
-    let parts = and_parts (nat_eq r.fed q.fed) (nat_eq r.index q.index) same in
-    let feds : r.fed ≡ q.fed = eqb-true r.fed q.fed parts.0 in
-    let indices : r.index ≡ q.index = eqb-true r.index q.index parts.1 in
-    λ i. record { fed = feds i; index = indices i }
+pub same_is : (r q : EndRef) → same_end r q ≡ true → r ≡ q
+same_is r q = (same_end-Decides r q).0
 
 get_pushed : (qs : List EndRef) (r : EndRef) → slice_get (qs ++ r ∷ []) (length (qs ++ r ∷ []) - 1) ≡ Some r
 get_pushed qs r =
@@ -163,13 +161,6 @@ naming_append meaning names (i ∷ is) js r =
     ∙ ap (λ (qs : List EndRef). (if name_ref meaning (names i.item) r then i.ref ∷ [] else []) ++ qs) (naming_append meaning names is js r)
     ∙ sym (append_assoc (if name_ref meaning (names i.item) r then i.ref ∷ [] else []) (refs_naming meaning names is r) (refs_naming meaning names js r))
     ∙ ap (λ (qs : List EndRef). qs ++ refs_naming meaning names js r) (sym (naming_cons meaning names r i is))
-
-pub begins_from : {A : Type 0} (meaning : List ℕ → Option EndRef) (names : A → List (List ℕ)) (kind : FederateRecord → List A) (first : List (List (List EndRef))) (feds : List FederateRecord) →
-    ((r : EndRef) → entry first r ≡ []) → IsAttachingFrom meaning names kind first 0 feds
-begins_from meaning names kind first feds blank = record {
-  is = λ r. ap (λ (qs : List EndRef). qs ++ refs_naming meaning names (interfaces_from kind 0 feds) r) (blank r);
-  before = λ r q among. absurd (subst (IsIn q) (blank r) among);
-}
 
 pub attached_from : {A : Type 0} (meaning : List ℕ → Option EndRef) (names : A → List (List ℕ)) (kind : FederateRecord → List A) (now next : List (List (List EndRef))) (f : ℕ)
     (feds : List FederateRecord) (x : FederateRecord) (xs : List A) → IsAttachingFrom meaning names kind now f feds → f < length feds → x ≡ get_or feds f x → xs ≡ kind x →

@@ -7,7 +7,7 @@ use Rattle.std.specs.Option.{option_or}
 use Rattle.interface_names.specs.declared.records.FederateRecord.{FederateRecord}
 use Rattle.federation_plan.specs.Interfaces.{Interface, one_in, interfaces_in, interfaces_from}
 use Rattle.federation_plan.specs.Refusal.{first_some}
-use Rattle.federation_plan.proofs.Named.{option_or_assoc, rest_in, rest_from, none_in, none_from}
+use Rattle.federation_plan.proofs.Named.{option_or_assoc, rest_in, rest_from}
 
 pub first_append : {A B : Type 0} (ask : A → Option B) (xs ys : List A) → first_some ask (xs ++ ys) ≡ option_or (first_some ask xs) (first_some ask ys)
 first_append ask [] ys = refl
@@ -41,10 +41,6 @@ module _ {A B : Type 0} (ask : Interface A → Option B) (all : Option B) (owner
   found_lent ys x r same left below at here =
       found_in x r left (subst (λ (l : List A). n < length l) same below) (subst (λ (l : List A). x ≡ get_or l n x) same at) here
 
-  -- they give none
-  pub done_in : IsLeftIn → length xs ≤ n → all ≡ None
-  done_in left past = sym left.is ∙ ap (first_some ask) (none_in owner f n xs past)
-
 -- the one of number n gives none
 pub next_in : {A B : Type 0} (ask : Interface A → Option B) (all : Option B) (owner : List ℕ) (f n : ℕ) (xs : List A) (x : A) →
     IsLeftIn ask all owner f n xs → n < length xs → x ≡ get_or xs n x → ask (one_in owner f n x) ≡ None → IsLeftIn ask all owner f (n + 1) xs
@@ -70,9 +66,6 @@ module _ {A B : Type 0} (kind : FederateRecord → List A) (ask : Interface A �
       M ⊎ (first_some ask (interfaces_in x.name f 0 (kind x)) ≡ Some r) → M ⊎ (all ≡ Some r)
   found_from x r left below at (inl wanting) = inl wanting
   found_from x r left below at (inr here) = inr (some_first _ _ all r here (here_from x left below at))
-
-  pub done_from : IsLeftFrom → length feds ≤ f → all ≡ None
-  done_from left past = sym left.is ∙ ap (first_some ask) (none_from kind f feds past)
 
 pub next_from : {A B : Type 0} (kind : FederateRecord → List A) (ask : Interface A → Option B) (all : Option B) (f : ℕ) (feds : List FederateRecord) (x : FederateRecord) →
     IsLeftFrom kind ask all f feds → f < length feds → x ≡ get_or feds f x → first_some ask (interfaces_in x.name f 0 (kind x)) ≡ None → IsLeftFrom kind ask all (f + 1) feds

@@ -23,7 +23,8 @@ use Rattle.message_filters.specs.Filter.{delay_of, reroute_of, drops}
 use Rattle.message_filters.specs.Chain.{last_of, kept_of, filtered_of}
 use Rattle.helics_time.specs.Time.{longest_span}
 use Rattle.message_filters.specs.Limits.{most_filters}
-use Rattle.federation_plan.specs.Interfaces.{Interface, same_ref, name_ref, name_fed, naming, refs_naming, endpoint_of, publication_of, inputs, filters, endpoints, federate_at, blank_federate, blank_filter, blank_endpoint, endpoint_at, IsEndpoint, IsInput, IsPublication}
+use Rattle.hel_values.specs.Values.{same_end}
+use Rattle.federation_plan.specs.Interfaces.{Interface, name_ref, name_fed, naming, refs_naming, endpoint_of, publication_of, inputs, filters, endpoints, federate_at, blank_federate, blank_filter, blank_endpoint, endpoint_at, IsEndpoint, IsInput, IsPublication}
 use Rattle.federation_plan.specs.Chains.{sources, destinations, filter_of, chain_on, source_chain, destination_chain, later_by, filtered_at, may_send, reroutes}
 use Rattle.federation_plan.specs.Depends.{reaches_by, reaches, by_value, by_message, depends}
 use Rattle.federation_plan.specs.Plan.{IsKept, targets_of}
@@ -190,7 +191,7 @@ end_reached feds from to end may is = go (reroutes (source_chain feds from)) ref
     go (r ∷ rs) are is' =
         ap (λ (l : List EndRef). reaches_by (endpoint_of feds) (last_or None l) (endpoint_at feds from) (endpoint_at feds end)) are
         ∙ ap (λ (o : Option EndRef). reaches_by (endpoint_of feds) o (endpoint_at feds from) (endpoint_at feds end)) (last_some r rs)
-        ∙ ap (λ (x : EndRef). same_ref end x) is' ∙ same_itself end
+        ∙ ap (λ (x : EndRef). same_end end x) is' ∙ same_itself end
 
 -- ---- dependencies
 

@@ -1,10 +1,9 @@
 -- Pairs of federates that wait for each other.
-use Rattle.std.proofs.Common.{◌≡◌, inl, inr, ℕ, zero, suc, ◌+◌, ◌<◌, ◌≤◌, Bool, true, List, [], ◌∷◌, length, get_or, drop, drop-cons, arith, refl, sym, ◌∙◌, ap, subst, Some, add-one, eq-eqb}
+use Rattle.std.proofs.Common.{◌≡◌, inl, inr, ℕ, zero, suc, ◌<◌, ◌≤◌, Bool, true, List, [], ◌∷◌, length, get_or, drop, arith, refl, sym, ◌∙◌, ap, subst, eq-eqb}
 use Rattle.std.specs.Prelude.{◌&&◌, nat_eq}
 use Rattle.std.specs.List.{list_any}
 use Rattle.std.specs.List.Sorted.{IsStrictlyIncreasing}
 use Rattle.std.proofs.lemmas.Bool.{or_cases, and_parts, eqb-true, cases_lt}
-use Rattle.std.proofs.lemmas.List.{drop_all, get_or_past}
 use Rattle.std.proofs.lemmas.List.Kept.{AllPairs-from_increasing}
 use Rattle.hel_lists.specs.Members.{IsIn}
 use Rattle.interface_names.specs.declared.records.InputRecord.{InputRecord}
@@ -15,7 +14,7 @@ use Rattle.dependency_paths.specs.Paths.Leads.{by_link, by_way_of}
 use Rattle.federation_plan.specs.Interfaces.{Interface, name_fed, publication_of, inputs, endpoints}
 use Rattle.federation_plan.specs.Depends.{by_value, by_message, depends, reaches}
 use Rattle.federation_plan.specs.Plan.{Federation, IsFederation}
-use Rattle.federation_plan.specs.Waiting.{IsWaitPair, IsFirstWait, IsFirstPartner}
+use Rattle.federation_plan.specs.Waiting.{IsWaitPair}
 use Rattle.federation_plan.proofs.Lists.{any_from, any_to}
 use Rattle.federation_plan.proofs.Named.{federate_within}
 use Rattle.federation_plan.proofs.Places.{stands_at, publications_known}
@@ -50,30 +49,9 @@ leads_within feds _ _ (by_way_of a b f first rest) = leads_within feds a b first
 pub ancestor_within : (p : Federation) → IsFederation p → (a f : ℕ) → IsIn a (row_of p.ancestors f) → a < length p.federates
 ancestor_within p is a f among = leads_within p.federates a f ((is.closed.exact a f).0 among).1
 
--- who has ancestors is a federate
-pub row_some : (p : Federation) → IsFederation p → (a f : ℕ) → IsIn a (row_of p.ancestors f) → f < length p.federates
-row_some p is a f among = elim (cases_lt f (length p.ancestors)) [
-  | inl below ↦ subst (λ (n : ℕ). f < n) is.closed.one_each below
-  | inr past ↦ absurd (subst (IsIn a) (get_or_past p.ancestors f [] past) among)
-]
-
 -- the ancestors from place i on hold all with whom a makes a pair
 pub record AreLeft (p : Federation) (a i : ℕ) (row : List ℕ) : Type 0 where
   pub left : (d : ℕ) → IsWaitPair p a d → IsIn d (drop i row)
-
-pub left_first : (p : Federation) (a : ℕ) (row : List ℕ) → row ≡ row_of p.ancestors a → AreLeft p a 0 row
-left_first p a row is = record { left = λ d pair. subst (IsIn d) (sym is) pair.1.b_first }
-
-pub left_more : (p : Federation) (a i b : ℕ) (row : List ℕ) → i < length row → b ≡ get_or row i b → (IsWaitPair p a b → ⊥) → AreLeft p a i row → AreLeft p a (i + 1) row
-left_more p a i b row below at none were = record {
-  left = λ d pair. subst (λ (k : ℕ). IsIn d (drop k row)) (sym (add-one i)) (elim (subst (IsIn d) (drop-cons row i b below) (were.left d pair)) [
-    | inl here ↦ absurd (none (subst (λ (e : ℕ). IsWaitPair p a e) (here ∙ sym at) pair))
-    | inr later ↦ later
-  ]);
-}
-
-pub left_none : (p : Federation) (a i : ℕ) (row : List ℕ) → length row ≤ i → AreLeft p a i row → (d : ℕ) → IsWaitPair p a d → ⊥
-left_none p a i row past were d pair = subst (IsIn d) (drop_all i row past) (were.left d pair)
 
 -- the place of what stands from place i on
 place_in : (row : List ℕ) (i d : ℕ) → IsIn d (drop i row) → (k : ℕ) × (i ≤ k) × (k < length row) × (d ≡ get_or row k 0)
@@ -111,33 +89,6 @@ left_least p a i row rises below were d pair = greater row i d rises below (were
 -- none before a makes a pair
 pub record AreDone (p : Federation) (a : ℕ) : Type 0 where
   pub done : (c d : ℕ) → IsWaitPair p c d → a ≤ c
-
-pub done_more : (p : Federation) (a : ℕ) → AreDone p a → ((d : ℕ) → IsWaitPair p a d → ⊥) → AreDone p (a + 1)
-done_more p a were none = record {
-  done = λ c d pair.
-      let low : a ≤ c = were.done c d pair in
-      elim (cases_lt a c) [
-        | inl above ↦ omega (arith, above)
-        | inr here ↦ let same : c ≡ a = omega (arith, low, here) in absurd (none d (subst (λ (e : ℕ). IsWaitPair p e d) same pair))
-      ];
-}
-
-pub done_first : (p : Federation) (a b : ℕ) → AreDone p a → IsFirstPartner p a (Some b) → IsFirstWait p (Some (a, b))
-done_first p a b were partner = (
-  partner.0,
-  λ c d pair.
-      let low : a ≤ c = were.done c d pair in
-      elim (cases_lt a c) [
-        | inl above ↦ inl above
-        | inr here ↦ let same : a ≡ c = omega (arith, low, here) in inr (same, partner.1 d (subst (λ (e : ℕ). IsWaitPair p e d) (sym same) pair))
-      ],
-)
-
-pub done_all : (p : Federation) (a : ℕ) → IsFederation p → length p.federates ≤ a → AreDone p a → (c d : ℕ) → IsWaitPair p c d → ⊥
-done_all p a is past were c d pair =
-    let low : a ≤ c = were.done c d pair in
-    let below : c < length p.federates = row_some p is d c pair.1.b_first in
-    omega (arith, low, below, past)
 
 -- a member by a test
 pub contains_is : (row all : List ℕ) (a : ℕ) (b : Bool) → row ≡ all → b ≡ list_any (λ y. nat_eq y a) row → (b ≡ true → IsIn a all) × (IsIn a all → b ≡ true)

@@ -2,10 +2,11 @@
 use Rattle.std.specs.Prelude.{ℕ, Bool, nat_eq, ◌&&◌, ◌||◌, List, Option, None, Some}
 use Rattle.std.specs.List.{list_any, last_or}
 use Rattle.hel_values.specs.declared.EndRef.{EndRef}
+use Rattle.hel_values.specs.Values.{same_end}
 use Rattle.interface_names.specs.declared.records.EndRecord.{EndRecord}
 use Rattle.interface_names.specs.declared.records.FederateRecord.{FederateRecord}
 use Rattle.message_filters.specs.declared.filter.Filter.{Filter}
-use Rattle.federation_plan.specs.Interfaces.{Interface, same_ref, name_fed, publication_of, endpoint_of, inputs, endpoints}
+use Rattle.federation_plan.specs.Interfaces.{Interface, name_fed, publication_of, endpoint_of, inputs, endpoints}
 use Rattle.federation_plan.specs.Chains.{allows, reroutes, source_chain}
 
 -- the endpoint of the last reroute of a chain
@@ -15,7 +16,7 @@ last_reroute chain = last_or None (reroutes chain)
 -- an endpoint reaches that of the last reroute in its source chain, else all to which it may send
 abbrev pub reaches_by : (List ℕ → Option EndRef) → Option EndRef → Interface EndRecord → Interface EndRecord → Bool
 reaches_by meaning None e x = allows meaning e x
-reaches_by meaning (Some r) e x = same_ref x.ref r
+reaches_by meaning (Some r) e x = same_end x.ref r
 
 abbrev pub reaches : List FederateRecord → Interface EndRecord → Interface EndRecord → Bool
 reaches feds e x = reaches_by (endpoint_of feds) (last_reroute (source_chain feds e.ref)) e x

@@ -1,9 +1,10 @@
 -- The interfaces of a federation, and their names.
-use Rattle.std.specs.Prelude.{ℕ, ◌≡◌, ◌<◌, ◌≤◌, Bool, false, nat_eq, ◌&&◌, map, find, length, List, [], Option, None, Some, slice_index_or}
+use Rattle.std.specs.Prelude.{ℕ, ◌≡◌, ◌<◌, ◌≤◌, Bool, false, nat_eq, map, find, length, List, [], Option, None, Some, slice_index_or}
 use Rattle.std.specs.List.{list_any, filter, flat_map, enumerate_from}
 use Rattle.std.specs.Option.{option_map}
 use Rattle.std.specs.Str.{bytes_eq}
 use Rattle.hel_values.specs.declared.EndRef.{EndRef}
+use Rattle.hel_values.specs.Values.{same_end}
 use Rattle.hel_values.specs.declared.ValueKind.TheVariants.{Int}
 use Rattle.machine_laws.specs.Machine.{default_terms}
 use Rattle.interface_names.specs.declared.records.PubRecord.{PubRecord}
@@ -65,13 +66,10 @@ publication_of feds name = named pub_name name (publications feds)
 unfoldable pub endpoint_of : List FederateRecord → List ℕ → Option EndRef
 endpoint_of feds name = named end_name name (endpoints feds)
 
--- tests of references: the same one, one of this federate
-abbrev pub same_ref : EndRef → EndRef → Bool
-same_ref r q = nat_eq r.fed q.fed && nat_eq r.index q.index
-
+-- tests of references: this one, one of this federate
 abbrev pub is_ref : EndRef → Option EndRef → Bool
 is_ref r None = false
-is_ref r (Some q) = same_ref r q
+is_ref r (Some q) = same_end r q
 
 abbrev pub is_of : ℕ → Option EndRef → Bool
 is_of f None = false

@@ -1,9 +1,9 @@
 -- Why a plan isn't made.
-use Rattle.std.specs.Prelude.{ℕ, ◌≡◌, ◌⊎◌, Bool, true, false, nat_lt, ◌||◌, is_none, List, [], ◌∷◌, length, find, Option, None, Some, Result, Ok, Err, if◌then◌else◌}
+use Rattle.std.specs.Prelude.{ℕ, ◌≡◌, ◌⊎◌, nat_lt, ◌||◌, is_none, List, [], ◌∷◌, length, find, Option, None, Some, Result, Ok, Err, if◌then◌else◌}
 use Rattle.std.specs.Option.{option_map, option_or, option_and_then}
 use Rattle.hel_values.specs.declared.EndRef.{EndRef}
 use Rattle.hel_values.specs.declared.ValueKind.{ValueKind}
-use Rattle.hel_values.specs.declared.ValueKind.TheVariants.{Int, Text, Bytes}
+use Rattle.hel_values.specs.Values.{same_kind}
 use Rattle.interface_names.specs.declared.records.InputRecord.{InputRecord}
 use Rattle.interface_names.specs.declared.records.EndRecord.{EndRecord}
 use Rattle.interface_names.specs.declared.records.FilterKind.{FilterKind}
@@ -28,12 +28,6 @@ unknown_of meaning names = find (λ name. is_none (meaning name)) names
 -- a required input's target that is no publication
 abbrev pub missing_at : (List ℕ → Option EndRef) → Interface InputRecord → Option PlanRefusal
 missing_at meaning i = if i.item.required then option_map (λ name. MissingRequired i.ref.fed name) (unknown_of meaning i.item.targets) else None
-
-abbrev pub same_kind : ValueKind → ValueKind → Bool
-same_kind Int Int = true
-same_kind Text Text = true
-same_kind Bytes Bytes = true
-same_kind a b = false
 
 -- the publication that a name means, where it is of another kind
 abbrev pub other_kind : (List ℕ → Option EndRef) → List FederateRecord → ValueKind → List ℕ → Option EndRef

@@ -3,7 +3,7 @@ use Rattle.std.specs.Prelude.{ℕ, ◌+◌, Bool, true, false, if◌then◌else�
 use Rattle.helics_time.specs.Stamp.{next_of}
 use Rattle.hel_values.specs.declared.EndRef.{EndRef}
 use Rattle.hel_values.specs.declared.Value.{Value}
-use Rattle.hel_values.specs.Values.{kind_of}
+use Rattle.hel_values.specs.Values.{kind_of, same_kind}
 use Rattle.due_queue.specs.declared.item.Content.TheVariants.{Value as ValueContent, Message}
 use Rattle.interface_names.specs.declared.records.PubRecord.{PubRecord}
 use Rattle.interface_names.specs.declared.records.EndRecord.{EndRecord}
@@ -19,7 +19,6 @@ use Rattle.federation_plan.specs.declared.tree.NodeKind.{NodeKind}
 use Rattle.federation_plan.specs.declared.tree.NodeKind.TheVariants.{Core}
 use Rattle.federation_plan.specs.Interfaces.{federate_at, endpoint_of}
 use Rattle.federation_plan.specs.Chains.{may_send, filtered_at}
-use Rattle.federation_plan.specs.Refusal.{same_kind}
 use Rattle.federation_plan.specs.Tree.{kind_at}
 use Rattle.federation_plan.specs.Plan.{Federation, targets_of, core_at}
 

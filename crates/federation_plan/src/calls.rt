@@ -7,7 +7,7 @@ use crate::plan::Plan;
 use crate::refusal::same_kind;
 use hel_lists::{OutOfMemory, Text};
 use hel_values::{EndRef, Value};
-use interface_names::{EndRecord, PubRecord, global_name};
+use interface_names::{EndRecord, PubRecord};
 use machine_laws::CallRefusal;
 use std::alloc::Global;
 
@@ -61,31 +61,6 @@ impl Plan {
             Some(name) => self.endpoint(name),
             None => None,
         }
-    }
-
-    /// What the federation calls an endpoint.
-    pub fn endpoint_name(&self, alloc: Global, at: EndRef) -> Result<Text, OutOfMemory>
-        requires { IsEndpoint self.now.federates at }
-        ensures { IfOk result (λ name. name ≡ end_name (endpoint_at self.now.federates at)) }
-    {
-        let federate = self.federate(at.fed);
-        let end = federate.endpoints.at(usize::from(at.index));
-        global_name(alloc, federate.name.as_str(), end.name.as_str(), end.global)
-    }
-
-    /// What the federation calls a publication.
-    pub fn publication_name(&self, alloc: Global, at: EndRef) -> Result<Text, OutOfMemory>
-        requires { IsPublication self.now.federates at }
-        ensures { IfOk result (λ name. name ≡ pub_name (publication_interface self.now.federates at)) }
-    {
-        let federate = self.federate(at.fed);
-        let publication = federate.publications.at(usize::from(at.index));
-        global_name(
-            alloc,
-            federate.name.as_str(),
-            publication.name.as_str(),
-            publication.global,
-        )
     }
 }
 

@@ -1,6 +1,7 @@
 //! The plan of a federation: its tree, its federates, and which of them reach which.
 #![tactic(auto)]
 
+mod called;
 mod calls;
 mod chains;
 mod draft;
@@ -13,6 +14,9 @@ mod tables;
 mod tree;
 mod waits;
 
+pub use called::{
+    endpoint_called, endpoint_name, federate_name, publication_called, publication_name,
+};
 pub use laws::plan_laws;
 pub use plan::Plan;
 pub use refusal::PlanRefusal;

@@ -4,7 +4,8 @@ ghost use Rattle.std.specs.Option.{option_copied};
 ghost use Rattle.interface_names.specs.Limits.{most_interfaces};
 ghost use Rattle.federation_plan.specs.declared.refusal.PlanRefusal.TheVariants.{FilterTarget as UnknownTarget, OutOfMemory as NoMemory};
 ghost use Rattle.federation_plan.specs.Interfaces.{AreFew, IsPublication, ArePublications, one_in, interfaces_in, inputs, filters, publication_at};
-ghost use Rattle.federation_plan.specs.Refusal.{Says, first_some, unknown_of, missing_at, other_kind as other_kind_of, mismatch_at, target_at, same_kind as same_kind_of};
+ghost use Rattle.federation_plan.specs.Refusal.{Says, first_some, unknown_of, missing_at, other_kind as other_kind_of, mismatch_at, target_at};
+ghost use Rattle.hel_values.specs.Values.{same_kind as same_kind_of};
 
 use crate::names::Names;
 use hel_lists::{Copied, OutOfMemory, Text};

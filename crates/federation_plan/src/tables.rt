@@ -3,7 +3,8 @@ ghost use Rattle.std.specs.HashMap.{get_by_text};
 ghost use Rattle.hel_lists.specs.Members.{IsIn};
 ghost use Rattle.interface_names.specs.Limits.{most_interfaces};
 ghost use Rattle.hel_values.specs.declared.EndRef.{EndRef};
-ghost use Rattle.federation_plan.specs.Interfaces.{AreFew, ArePublications, AreEndpoints, is_ref, same_ref, name_ref, refs_naming, interfaces_in, inputs, filters, federate_at};
+ghost use Rattle.hel_values.specs.Values.{same_end};
+ghost use Rattle.federation_plan.specs.Interfaces.{AreFew, ArePublications, AreEndpoints, is_ref, name_ref, refs_naming, interfaces_in, inputs, filters, federate_at};
 ghost use Rattle.federation_plan.specs.Side.{names_on as names_on_side};
 ghost use Rattle.federation_plan.specs.Tables.{row_at, entry, HasPlace, ends_with, with_last};
 
@@ -207,7 +208,7 @@ fn add_named(table: &mut Table, names: &Names, by: EndRef, name: &Text) -> Resul
 fn add(table: &mut Table, at: EndRef, by: EndRef) -> Result<(), OutOfMemory>
     requires { HasPlace table.old at }
     ensures places { OnOk result ((f : ℕ) → length (row_at table.new f) ≡ length (row_at table.old f)) }
-    ensures entries { OnOk result ((r : EndRef) → entry table.new r ≡ (if same_ref r at then with_last (entry table.old r) by else entry table.old r)) }
+    ensures entries { OnOk result ((r : EndRef) → entry table.new r ≡ (if same_end r at then with_last (entry table.old r) by else entry table.old r)) }
 {
     let row = table.at_mut(at.fed as usize);
     let list = row.at_mut(at.index as usize);

@@ -60,7 +60,9 @@ line_of (Err (FileFault path)) = error_line (cannot_read path)
 line_of (Err (Refused refusal)) = error_line (refused refusal)
 line_of (Err OutOfMemory) = error_line out_of_memory
 
--- a line that these words may bring: of an answer to them, or that it can't be written
-abbrev pub MayTell : Content → List (List ℕ) → List ℕ → Type 0
-MayTell content words line =
-    (line ≡ error_line cannot_write) ⊎ ((answer : Result Printed Failure) × Answers content words answer × (line ≡ line_of answer))
+-- a line that these words may bring: that a sink which failed can't be written, that memory was wanting, or what tells
+-- an answer that counted its faults
+abbrev pub MayTell : Content → List (List ℕ) → Type 0 → (Result Printed Failure → Type 0) → List ℕ → Type 0
+MayTell content words OutFailed Counted line =
+    ((line ≡ error_line cannot_write) × OutFailed) ⊎ ((line ≡ error_line out_of_memory) × HasVerb words)
+    ⊎ ((answer : Result Printed Failure) × Answers content words answer × Counted answer × (line ≡ line_of answer))

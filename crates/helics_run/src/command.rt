@@ -98,7 +98,9 @@ pub fn command<F: Files, O: Sink, E: Sink>(
         ⊎ (Gains (O.written out.old) (O.written out.new) p.out × Rose (E.faults err.old) (E.faults err.new))))) }
     // Where `err` failed, it gained a first part of one line, and not all of it.
     ensures part_of_err { E.faults err.old < E.faults err.new → (line : List ℕ)
-        × MayTell (F.content files.old) (texts words.now.items) line × GainsPart (E.written err.old) (E.written err.new) line }
+        × MayTell (F.content files.old) (texts words.now.items) (Rose (O.faults out.old) (O.faults out.new))
+            (λ answer. CountsFaults answer (F.faults files.old) (F.faults files.new) (F.failed_path files.new)) line
+        × GainsPart (E.written err.old) (E.written err.new) line }
     ensures same_files { (path : List ℕ) → F.content files.new path ≡ F.content files.old path }
 
     // The others don't come.

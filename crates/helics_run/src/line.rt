@@ -1,10 +1,10 @@
 //! Lines on standard error (docs/FORMATS.md, Error lines).
 ghost use Rattle.std.specs.Prelude.{◌≡◌, IfOk, string_bytes};
 ghost use Rattle.json.specs.Print.{quoted};
-ghost use Rattle.federation_plan.specs.Interfaces.{federate_at};
 ghost use Rattle.helics_run.specs.Lines.{error_line, cannot_read, refused, failure_at, halted_by};
 ghost use Rattle.one_place.specs.Members.{text_of as failure_text};
 
+use federation_plan::federate_name;
 use hel_lists::{OutOfMemory, Text};
 use interface_names::FederateRecord;
 use one_place::{FedLog, LogEnd};
@@ -46,7 +46,7 @@ pub fn halted_line(
 ) -> Result<Text, OutOfMemory>
     ensures { IfOk result (λ line. line ≡ error_line (halted_by federates.now logs.now failed)) }
 {
-    let name = name_at(federates, failed);
+    let name = federate_name(federates, usize::from(failed));
     let text = quoted(alloc, failure_at(logs, failed))?;
     Ok(Text::of(format!(in alloc; "helics_run: halted by {name}: failed {text}\n")?))
 }
@@ -56,15 +56,6 @@ fn quoted(alloc: Global, text: &str) -> Result<String, OutOfMemory>
     ensures { IfOk result (λ json. string_bytes json ≡ quoted text.now) }
 {
     Ok(Json::try_from_str(alloc, text)?.to_string(alloc)?)
-}
-
-fn name_at(federates: &[FederateRecord], f: u16) -> &str
-    ensures { result.now ≡ (federate_at federates.now f).name }
-{
-    match federates.get(usize::from(f)) {
-        Some(federate) => federate.name.as_str(),
-        None => "",
-    }
 }
 
 fn failure_at(logs: &[FedLog], f: u16) -> &str

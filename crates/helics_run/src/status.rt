@@ -4,9 +4,9 @@ ghost use Rattle.helics_run.specs.Statuses.{number_of};
 /// How the program ends (docs/FORMATS.md, Statuses).
 #[derive(Clone, Copy, Debug, PartialEq, Eq)]
 pub enum Status {
-    /// The logs were written.
+    /// What the words ask for was written, and no federate failed.
     Done = 0,
-    /// A federate failed or died.
+    /// A federate failed, and the run ended there.
     Halted = 1,
     /// The words are none of the program's.
     BadWords = 2,

@@ -98,6 +98,13 @@ impl Registry {
         &self.federates[f as usize]
     }
 
+    /// All federates, in the order of their numbers.
+    pub fn federates(&self) -> &[FederateRecord]
+        ensures { result.now ≡ self.now }
+    {
+        self.federates.as_slice()
+    }
+
     /// Takes a federate in, and gives it the next number. It is refused where there are 512; where
     /// its name or that of an interface, as written, is empty, longer than 255 bytes or holds a
     /// control character; where another has its name; where it has more than 256 interfaces; and

@@ -4,8 +4,7 @@ ghost use Rattle.federation_plan.specs.Tree.{node_at};
 ghost use Rattle.log_text.specs.Text.{line};
 ghost use Rattle.log_text.specs.Check.{check_line, cycle_line, check_of, IsCheckText};
 
-use crate::names::federate_name;
-use federation_plan::{NodeRow, Plan};
+use federation_plan::{NodeRow, Plan, federate_name};
 use hel_lists::OutOfMemory;
 use interface_names::FederateRecord;
 use std::alloc::Global;

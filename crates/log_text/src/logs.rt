@@ -3,8 +3,7 @@ ghost use Rattle.std.specs.List.{flat_map};
 ghost use Rattle.log_text.specs.Text.{kind_word, cause_word, phase_word, end_words, grant_text, entry_text, fed_text, logs_text};
 
 use crate::items::{quoted, write_items};
-use crate::names::federate_name;
-use federation_plan::Plan;
+use federation_plan::{Plan, federate_name};
 use hel_lists::OutOfMemory;
 use helics_time::Seconds;
 use interface_names::FederateRecord;

@@ -1,22 +1,12 @@
-// What the federation calls federates and interfaces. A federate that there isn't has a blank name;
-// an interface that its federate hasn't is told by a blank name of its own, as in `A/`.
+// Writes what the federation calls interfaces.
 ghost use Rattle.std.specs.Prelude.{◌≡◌, ◌++◌, OnOk, string_bytes};
 ghost use Rattle.interface_names.specs.Names.{global_name_of};
-ghost use Rattle.federation_plan.specs.Interfaces.{federate_at, publication_at, publication_interface, endpoint_at, pub_name, end_name};
+ghost use Rattle.federation_plan.specs.Interfaces.{publication_interface, endpoint_at, pub_name, end_name};
 
+use federation_plan::{endpoint_called, federate_name, publication_called};
 use hel_lists::OutOfMemory;
 use hel_values::EndRef;
 use interface_names::FederateRecord;
-
-/// The name of the federate of a number.
-pub(crate) fn federate_name(federates: &[FederateRecord], number: usize) -> &str
-    ensures { result.now ≡ (federate_at federates.now number).name }
-{
-    match federates.get(number) {
-        Some(federate) => federate.name.as_str(),
-        None => "",
-    }
-}
 
 /// Writes the name of a publication.
 pub(crate) fn write_publication(
@@ -42,34 +32,6 @@ pub(crate) fn write_endpoint(
     let owner = federate_name(federates, usize::from(endpoint.fed));
     let (name, global) = endpoint_called(federates, endpoint);
     write_name(out, owner, name, global)
-}
-
-// The name that its federate gave a publication, and whether it is global.
-fn publication_called(federates: &[FederateRecord], at: EndRef) -> (&str, bool)
-    ensures name { result.0.now ≡ (publication_at federates.now at).name }
-    ensures global { result.1 ≡ (publication_at federates.now at).global }
-{
-    let Some(federate) = federates.get(usize::from(at.fed)) else {
-        return ("", false);
-    };
-    match federate.publications.as_slice().get(usize::from(at.index)) {
-        Some(publication) => (publication.name.as_str(), publication.global),
-        None => ("", false),
-    }
-}
-
-// The same of an endpoint.
-fn endpoint_called(federates: &[FederateRecord], at: EndRef) -> (&str, bool)
-    ensures name { result.0.now ≡ (endpoint_at federates.now at).item.name }
-    ensures global { result.1 ≡ (endpoint_at federates.now at).item.global }
-{
-    let Some(federate) = federates.get(usize::from(at.fed)) else {
-        return ("", false);
-    };
-    match federate.endpoints.as_slice().get(usize::from(at.index)) {
-        Some(endpoint) => (endpoint.name.as_str(), endpoint.global),
-        None => ("", false),
-    }
 }
 
 // Writes the name that the federation gives an interface: a global one keeps its own.

@@ -57,15 +57,15 @@ begins_wait (m ∷ ms) zero waits = begun_waits m waits
 begins_wait (m ∷ ms) (suc f) waits = begins_wait ms f waits
 
 -- and so does a halt
-halts_wait : (p : Plan) (core d i : ℕ) (ms : List Member) (f : ℕ) → (get_or (halted_from p core d i ms) f blank_member).time.phase ≡ Waiting →
-    get_or (halted_from p core d i ms) f blank_member ≡ get_or ms f blank_member
-halts_wait p core d i [] f waits = refl
-halts_wait p core d i (m ∷ ms) zero waits = by_test _ waits
+halts_wait : (core_of : ℕ → ℕ) (core d i : ℕ) (ms : List Member) (f : ℕ) → (get_or (halted_from core_of core d i ms) f blank_member).time.phase ≡ Waiting →
+    get_or (halted_from core_of core d i ms) f blank_member ≡ get_or ms f blank_member
+halts_wait core_of core d i [] f waits = refl
+halts_wait core_of core d i (m ∷ ms) zero waits = by_test _ waits
   where
     by_test : (b : Bool) → (if b then ended_member m (Halted d) else m).time.phase ≡ Waiting → (if b then ended_member m (Halted d) else m) ≡ m
     by_test true ended = cc
     by_test false waits = refl
-halts_wait p core d i (m ∷ ms) (suc f) waits = halts_wait p core d (suc i) ms f waits
+halts_wait core_of core d i (m ∷ ms) (suc f) waits = halts_wait core_of core d (suc i) ms f waits
 
 -- a step of g after which it doesn't wait is of another than f, which waits
 elsewhere : (s : State) (g f : ℕ) (n : Member) (items : List Parcel) → g < length s.members → (n.time.phase ≡ Waiting → ⊥) → (member_at (with_member s g n items) f).time.phase ≡ Waiting →
@@ -110,7 +110,7 @@ waits_step p s (fail g text) f keeps lawful waits =
 waits_step p s (die g) f keeps lawful waits =
     let e = elsewhere s g f _ s.items (accepted s g _ lawful.0).0 (λ w. cc) waits in
     inl (record { unasked = λ t m e. cc; ungranted = λ e. cc; member = e.1 })
-waits_step p s (halt core d) f keeps lawful waits = inl (record { unasked = λ t m e. cc; ungranted = λ e. cc; member = halts_wait p core d 0 s.members f waits })
+waits_step p s (halt core d) f keeps lawful waits = inl (record { unasked = λ t m e. cc; ungranted = λ e. cc; member = halts_wait p.core core d 0 s.members f waits })
 
 -- steps that leave f
 record Left (s t : State) (f : ℕ) (steps : List Step) : Type 0 where

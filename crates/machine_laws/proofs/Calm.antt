@@ -123,16 +123,16 @@ begins_calm (m ∷ ms) zero feds = begun_calm m (feds 0)
 begins_calm (m ∷ ms) (suc f) feds = begins_calm ms f (λ g. feds (suc g))
 
 -- a halt
-halts_calm : (p : Plan) (core d i : ℕ) (ms : List Member) (f : ℕ) → ((g : ℕ) → IsFed (get_or ms g blank_member).time) →
-    Calmer (get_or ms f blank_member) (get_or (halted_from p core d i ms) f blank_member)
-halts_calm p core d i [] f feds = calm_same blank_member blank_is
-halts_calm p core d i (m ∷ ms) zero feds = by_test (p.core i == core) (is_live m.time.phase) refl
+halts_calm : (core_of : ℕ → ℕ) (core d i : ℕ) (ms : List Member) (f : ℕ) → ((g : ℕ) → IsFed (get_or ms g blank_member).time) →
+    Calmer (get_or ms f blank_member) (get_or (halted_from core_of core d i ms) f blank_member)
+halts_calm core_of core d i [] f feds = calm_same blank_member blank_is
+halts_calm core_of core d i (m ∷ ms) zero feds = by_test (core_of i == core) (is_live m.time.phase) refl
   where
     by_test : (b l : Bool) → is_live m.time.phase ≡ l → Calmer m (if b && l then ended_member m (Halted d) else m)
     by_test true true live = calm_end m (Halted d) m.text (feds 0) live (λ e. cc)
     by_test true false live = calm_same m (feds 0)
     by_test false l live = calm_same m (feds 0)
-halts_calm p core d i (m ∷ ms) (suc f) feds = halts_calm p core d (suc i) ms f (λ g. feds (suc g))
+halts_calm core_of core d i (m ∷ ms) (suc f) feds = halts_calm core_of core d (suc i) ms f (λ g. feds (suc g))
 
 -- steps other than calls that send and grants
 abbrev pub IsCalm : Step → Type 0
@@ -166,4 +166,4 @@ calm_step p s (fail f text) feds lawful calm x =
     let k = accepted s f _ lawful.0 in calm_member s f _ feds k.0 (calm_end (member_at s f) Failed text (feds f) (lives (member_at s f).time.phase k.1) (λ e. cc)) x
 calm_step p s (die f) feds lawful calm x =
     let k = accepted s f _ lawful.0 in calm_member s f _ feds k.0 (calm_end (member_at s f) Died (member_at s f).text (feds f) (lives (member_at s f).time.phase k.1) (λ e. cc)) x
-calm_step p s (halt core f) feds lawful calm x = halts_calm p core f 0 s.members x feds
+calm_step p s (halt core f) feds lawful calm x = halts_calm p.core core f 0 s.members x feds

@@ -6,9 +6,9 @@ use Rattle.time_state.specs.declared.Phase.{Phase}
 use Rattle.time_state.specs.declared.Phase.TheVariants.{Created, Initializing, Entering, Running, Waiting, Ended}
 use Rattle.machine_laws.specs.Plan.{Plan}
 use Rattle.machine_laws.specs.Machine.{Member, member_at, failed_or_died}
-use Rattle.machine_laws.specs.Moves.{Scripts, Play, move, Moves, IsStill, IsReference, KeepsTimes, opening_play, plays_on, NoneFailed, is_failed, failed_in, IsUpToFailure, StopsAtFailure}
+use Rattle.machine_laws.specs.Moves.{Scripts, Play, move, Moves, IsStill, IsReference, KeepsTimes, opening_play, NoneFailed, is_failed, failed_in, IsUpToFailure, StopsAtFailure}
 use Rattle.machine_laws.proofs.Moves.{moved_is, chosen_is, member_stays}
-use Rattle.machine_laws.proofs.Stuck.{AllPlay, move_plays, opening_plays, opening_unfailed, stuck_waits}
+use Rattle.machine_laws.proofs.Stuck.{plays_on, AllPlay, move_plays, opening_plays, opening_unfailed, stuck_waits}
 
 failure_moves : (p : Plan) (scripts : Scripts) (w end : Play) (fs : List ℕ) (failed : Option ℕ) → IsUpToFailure p scripts w fs failed end → Moves p scripts w fs end
 failure_moves p scripts w end [] failed run = run.0

@@ -14,13 +14,23 @@ use Rattle.machine_laws.specs.Plan.{Plan}
 use Rattle.machine_laws.specs.Machine.{Member, State, Step, blank_member, begun_member, new_member, member_at, with_member, failed_or_died, refusal_of, after, opening, IsRun}
 use Rattle.machine_laws.specs.Machine.Step.{begin, grant}
 use Rattle.machine_laws.specs.Laws.{AllWait}
-use Rattle.machine_laws.specs.Moves.{Doing, Scripts, Play, calls_of, doing_refusal, step_by, or_failure, call_by, in_turn, if_lawful, next_step, moved, move, Moves, IsStill, opening_play, plays_on, NoneFailed, StuckWaits, steps_of_moves}
+use Rattle.machine_laws.specs.Moves.{Doing, Scripts, Play, calls_of, doing_refusal, step_by, or_failure, call_by, in_turn, if_lawful, next_step, moved, move, Moves, IsStill, opening_play, NoneFailed, StuckWaits, steps_of_moves}
 use Rattle.machine_laws.specs.Moves.Doing.{enters, makes, requests, finishes, fails}
 use Rattle.machine_laws.proofs.Accepted.{may_grant}
 use Rattle.machine_laws.proofs.Enabled.{some_grant}
 use Rattle.machine_laws.proofs.Keep.{runs_keep}
 use Rattle.machine_laws.proofs.Members.{by_member}
 use Rattle.machine_laws.proofs.Moves.{moved_is, moves_run}
+
+-- a federate that scripts play: it calls or waits, or has ended by a call of its own
+abbrev pub plays_on : Phase → Bool
+plays_on Initializing = true
+plays_on Entering = true
+plays_on Running = true
+plays_on Waiting = true
+plays_on (Ended Finished) = true
+plays_on (Ended Failed) = true
+plays_on phase = false
 
 -- so many federates, and scripts play each
 pub record AllPlay (n : ℕ) (s : State) : Type 0 where

@@ -206,11 +206,14 @@ ended_member m cause = record m { time = ended m.time cause [] }
 abbrev pub failed_member : Member → List ℕ → Member
 failed_member m text = record m { time = ended m.time Failed []; text = text }
 
--- the members from number i on, where those of one core that live are halted
-abbrev pub halted_from : Plan → ℕ → ℕ → ℕ → List Member → List Member
-halted_from p core f i [] = []
-halted_from p core f i (m ∷ ms) =
-    (if p.core i == core && is_live m.time.phase then ended_member m (Halted f) else m) ∷ halted_from p core f (suc i) ms
+-- a member that lives is halted by f where it stands there
+abbrev pub halted_if : Bool → ℕ → Member → Member
+halted_if there f m = if there && is_live m.time.phase then ended_member m (Halted f) else m
+
+-- the members from number i on, where those of one core are halted
+abbrev pub halted_from : (ℕ → ℕ) → ℕ → ℕ → ℕ → List Member → List Member
+halted_from core_of core f i [] = []
+halted_from core_of core f i (m ∷ ms) = halted_if (core_of i == core) f m ∷ halted_from core_of core f (suc i) ms
 
 -- another member in the place of f, and other items
 abbrev pub with_member : State → ℕ → Member → List Parcel → State
@@ -226,7 +229,7 @@ after p s (grant f) = with_member s f (granted_member (member_at s f) (dues_to s
 after p s (finish f) = with_member s f (ended_member (member_at s f) Finished) s.items
 after p s (fail f text) = with_member s f (failed_member (member_at s f) text) s.items
 after p s (die f) = with_member s f (ended_member (member_at s f) Died) s.items
-after p s (halt core f) = record s { members = halted_from p core f 0 s.members }
+after p s (halt core f) = record s { members = halted_from p.core core f 0 s.members }
 
 -- lawful steps, one after another
 abbrev pub IsRun : Plan → State → List Step → State → Type 0

@@ -4,7 +4,7 @@ use Rattle.helics_time.specs.Settings.{Terms}
 use Rattle.iteration_rules.specs.declared.Mode.{Mode}
 use Rattle.hel_lists.specs.Members.{IsIn}
 use Rattle.time_state.specs.Fed.{enter_refusal, request_refusal, is_live}
-use Rattle.time_state.specs.declared.Cause.TheVariants.{Finished, Failed}
+use Rattle.time_state.specs.declared.Cause.TheVariants.{Failed}
 use Rattle.time_state.specs.declared.Phase.{Phase}
 use Rattle.time_state.specs.declared.Phase.TheVariants.{Initializing, Entering, Running, Waiting, Ended}
 use Rattle.machine_laws.specs.declared.logs.LogEntry.{LogEntry}
@@ -158,16 +158,6 @@ OrdersEnd = (p : Plan) (scripts : Scripts) (w v end : Play) (fs gs : List ℕ) �
 abbrev pub ReferenceEnds : Type 0
 ReferenceEnds = (p : Plan) (scripts : Scripts) (w end : Play) (gs : List ℕ) → IsPlan p → KeepsTimes scripts → Keeps p w.state →
     Moves p scripts w gs end → IsStill p scripts end → (fs : List ℕ) × IsReference p scripts w fs end × (length fs ≡ length gs)
-
--- a federate that scripts play: it calls or waits, or has ended by a call of its own
-abbrev pub plays_on : Phase → Bool
-plays_on Initializing = true
-plays_on Entering = true
-plays_on Running = true
-plays_on Waiting = true
-plays_on (Ended Finished) = true
-plays_on (Ended Failed) = true
-plays_on phase = false
 
 -- no federate has failed or died
 abbrev pub NoneFailed : State → Type 0

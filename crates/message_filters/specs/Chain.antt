@@ -1,6 +1,6 @@
 -- What a chain of filters makes of a message.
-use Rattle.std.specs.Prelude.{ℕ, ◌*◌, ◌<◌, ◌≤◌, List, [], ◌∷◌, sum_by}
-use Rattle.std.specs.List.{filter_map, position_from}
+use Rattle.std.specs.Prelude.{ℕ, ◌*◌, ◌<◌, ◌≤◌, List, sum_by}
+use Rattle.std.specs.List.{fold, filter_map, position_from}
 use Rattle.std.specs.Option.{option_map_or}
 use Rattle.hel_values.specs.declared.EndRef.{EndRef}
 use Rattle.message_filters.specs.declared.filter.Filter.{Filter}
@@ -12,8 +12,7 @@ use Rattle.message_filters.specs.Limits.{most_filters}
 
 -- the last of x and xs
 abbrev pub last_of : {A : Type 0} → A → List A → A
-last_of x [] = x
-last_of x (y ∷ ys) = last_of y ys
+last_of x = fold (λ before y. y) x
 
 -- a message that no filter drops goes to the last reroute's endpoint, and to `dest` where there is none; the delays add up
 abbrev pub kept_of : List Filter → EndRef → Filtered

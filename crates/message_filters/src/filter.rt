@@ -90,14 +90,6 @@ impl PerMillion {
         }
     }
 
-    /// In millionths.
-    pub fn parts(&self) -> u32
-        ensures value { result ≡ self.now }
-        ensures bound { result ≤ million }
-    {
-        self.parts
-    }
-
     /// Whether this word of chance falls within it.
     pub(crate) fn hits(&self, word: u64) -> bool
         ensures { result ≡ nat_lt (word % million) self.now }

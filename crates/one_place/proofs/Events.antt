@@ -5,18 +5,15 @@ use Rattle.std.specs.Option.{option_to_list}
 use Rattle.std.proofs.lemmas.Bool.Decides.{nat_tests}
 use Rattle.hel_lists.specs.Members.{IsIn, Each}
 use Rattle.hel_lists.proofs.Members.{in_map}
-use Rattle.helics_time.specs.Time.{max_time, horizon}
+use Rattle.helics_time.specs.Time.{horizon}
 use Rattle.helics_time.specs.Stamp.{At, IsDue, at_most, next_of, rank}
 use Rattle.helics_time.proofs.Ranks.{most_of}
 use Rattle.due_queue.specs.Item.{Parcel}
 use Rattle.due_queue.specs.Queue.{first_due}
-use Rattle.iteration_rules.specs.declared.Mode.{Mode}
-use Rattle.time_state.specs.Fed.{Fed, IsFed, IsStep, IsEvent, created, event_of, granted, requested, ended, enter_refusal, request_refusal, is_asking, is_live}
-use Rattle.time_state.specs.Laws.Turn.{begins, enters, requests}
+use Rattle.time_state.specs.Fed.{Fed, IsFed, IsStep, IsEvent, created, event_of, granted, ended, is_asking, is_live}
 use Rattle.time_state.specs.declared.Cause.{Cause}
-use Rattle.time_state.specs.declared.Phase.TheVariants.{Created, Initializing, Entering}
 use Rattle.time_state.proofs.Least.{least_decides}
-use Rattle.time_state.proofs.Turns.{opening_stands, turn_stands, end_stands}
+use Rattle.time_state.proofs.Turns.{opening_stands, end_stands}
 use Rattle.time_state.proofs.Grants.{grant_stands, grant_steps}
 use Rattle.helics_time.specs.Settings.{Terms, IsTerms}
 use Rattle.machine_laws.specs.Machine.{limit_refusal}
@@ -53,16 +50,6 @@ next_by s small = grind (arith, nat_tests)
 cut_bounds : (last cut : At) → cut.micro ≤ 2 ^ 63 → last.micro < 2 ^ 62 → rank last ≤ rank cut → rank cut ≤ rank last + 1 → (cut.time ≤ last.time) × (cut.micro ≤ 2 ^ 62)
 cut_bounds last cut range small low high = (omega arith, omega arith)
 
--- what every federate keeps holds after each call, grant and end
-pub begun_stands : (f : Fed) → IsFed f → f.phase ≡ Created → IsFed (record f { phase = Initializing })
-begun_stands f fed new = turn_stands f begins fed new
-
-pub entered_stands : (f : Fed) → IsFed f → enter_refusal f ≡ None → IsFed (record f { phase = Entering })
-entered_stands f fed may = turn_stands f enters fed may
-
-pub requested_stands : (f : Fed) (time : ℕ) (mode : Mode) → IsFed f → request_refusal f ≡ None → time ≤ max_time → IsFed (requested f time mode)
-requested_stands f time mode fed may fits = turn_stands f (requests time mode) fed (may, fits)
-
 pub ended_stands : (f : Fed) (c : Cause) → IsFed f → is_live f.phase ≡ true → IsFed (ended f c [])
 ended_stands f c fed live = end_stands f c [] fed (λ d none. absurd none) live
 
@@ -98,7 +85,3 @@ sends_small f seq none = grind (arith, nat_tests)
 
 pub sends_few : (f : Fed) (seq : ℕ) → limit_refusal (sender_of f seq) ≡ None → seq < 2 ^ 32
 sends_few f seq none = grind (arith, nat_tests)
-
--- what comes later has a due that items may have
-pub later_due : (f : Fed) (delay : ℕ) → f.last.time < horizon → delay < 2 ^ 61 → IsDue (record { time = f.last.time + delay; micro = 0 })
-later_due f delay low soon = record { time = omega (arith, low, soon); micro = omega arith }

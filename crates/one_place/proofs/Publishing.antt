@@ -224,9 +224,9 @@ pub record MayCall (cs : List Clock) (f : ℕ) (items : List Parcel) : Type 0 wh
   pub made : AreMade (length cs) f (clock_at cs f).seq items
   pub new : map (taken_back f (clock_at cs f).seq) cs ≡ cs
 
-pub may_call : (s : State) (b : Bool) (cs : List Clock) (ls : List FedLog) (f : ℕ) (items : List Parcel) → AreKept cs ls → state_of b cs ls ≡ s → f < length s.members →
+of_kept : (s : State) (b : Bool) (cs : List Clock) (ls : List FedLog) (f : ℕ) (items : List Parcel) → AreKept cs ls → state_of b cs ls ≡ s → f < length s.members →
     limit_refusal (member_at s f) ≡ None → AreMade (length s.members) f (member_at s f).seq items → MayCall cs f items
-may_call s b cs ls f items kept is known limits made =
+of_kept s b cs ls f items kept is known limits made =
     let same = joined_length cs ls kept.seats in
     let all : length (joined cs ls) ≡ length s.members = ap (λ (t : State). length t.members) is in
     let within : f < length cs = omega (arith, same, all, known) in
@@ -240,16 +240,29 @@ may_call s b cs ls f items kept is known limits made =
       new = nothing_made cs ls f kept;
     }
 
+-- over clocks that are those of the state
+pub may_call : (s : State) (b : Bool) (cs xs : List Clock) (ls : List FedLog) (f : ℕ) (items : List Parcel) → xs ≡ cs → AreKept cs ls → state_of b cs ls ≡ s → f < length s.members →
+    limit_refusal (member_at s f) ≡ None → AreMade (length s.members) f (member_at s f).seq items → MayCall xs f items
+may_call s b cs xs ls f items lent kept is known limits made =
+    subst (λ (ys : List Clock). MayCall ys f items) (sym lent) (of_kept s b cs ls f items kept is known limits made)
+
 -- the state after a call for which memory may have been wanting
 pub record IsTried {T E : Type 0} (r : Result T E) (s : State) (b : Bool) (ds : List Clock) (ls : List FedLog) (f : ℕ) (items : List Parcel) : Type 0 where
   pub kept : AreKept ds ls
   pub state : OnOk r (state_of b ds ls ≡ with_member s f (called_member (member_at s f)) (insert_all items s.items))
   pub same : OnErr r (state_of b ds ls ≡ s)
 
-pub tried : {T E : Type 0} (r : Result T E) (s : State) (b : Bool) (cs ds : List Clock) (ls : List FedLog) (f : ℕ) (items : List Parcel) → AreKept cs ls →
+by_result : {T E : Type 0} (r : Result T E) (s : State) (b : Bool) (cs ds : List Clock) (ls : List FedLog) (f : ℕ) (items : List Parcel) → AreKept cs ls →
     state_of b cs ls ≡ s → MayCall cs f items → OnOk r (ds ≡ called_at f (put_all items cs)) → OnOk r (AreClocks ds) → OnErr r (ds ≡ cs) → IsTried r s b ds ls f items
-tried (Ok done) s b cs ds ls f items kept is may now clocks err =
+by_result (Ok done) s b cs ds ls f items kept is may now clocks err =
     let done = published s b cs ds ls f items kept is may.within may.made now clocks in
     record { kept = done.kept; state = done.state; same = tt }
-tried (Err e) s b cs ds ls f items kept is may now clocks err =
+by_result (Err e) s b cs ds ls f items kept is may now clocks err =
     record { kept = subst (λ (xs : List Clock). AreKept xs ls) (sym err) kept; state = tt; same = ap (λ (xs : List Clock). state_of b xs ls) err ∙ is }
+
+-- where the clocks were lent and put back
+pub tried : {T E : Type 0} (r : Result T E) (s : State) (b : Bool) (cs xs ds es : List Clock) (ls : List FedLog) (f : ℕ) (items : List Parcel) → xs ≡ cs → es ≡ ds → AreKept cs ls →
+    state_of b cs ls ≡ s → MayCall xs f items → OnOk r (ds ≡ called_at f (put_all items xs)) → OnOk r (AreClocks ds) → OnErr r (ds ≡ xs) → IsTried r s b es ls f items
+tried r s b cs xs ds es ls f items lent back kept is may now clocks err =
+    subst (λ (ys : List Clock). IsTried r s b ys ls f items) (sym back)
+    (by_result r s b xs ds ls f items (subst (λ (ys : List Clock). AreKept ys ls) (sym lent) kept) (ap (λ (ys : List Clock). state_of b ys ls) lent ∙ is) may now clocks err)

@@ -17,9 +17,9 @@ use Rattle.machine_laws.specs.declared.logs.FedLog.{FedLog}
 use Rattle.helics_time.specs.Settings.{Terms, IsTerms}
 use Rattle.interface_names.specs.declared.records.FederateRecord.{FederateRecord}
 use Rattle.federation_plan.specs.Plan.{IsKept}
-use Rattle.machine_laws.specs.Machine.{Member, State, new_member, blank_member, member_at, event_in, cut_in, dues_to, is_handed, is_left, handed_in, left_in, with_member, begun_member, granted_member, log_of}
+use Rattle.machine_laws.specs.Machine.{Member, State, new_member, blank_member, member_at, event_in, cut_in, dues_to, is_handed, is_left, handed_in, left_in, with_member, begun_member, granted_member, halted_if, log_of}
 use Rattle.one_place.specs.declared.seat.Clock.{Clock}
-use Rattle.one_place.specs.Members.{member_of, dues_of, IsSeat, IsSeatOf, IsClockOf, AreSeats, AreClocks, AreKept, joined, gathered, state_of, blank_clock, blank_log, clock_at, log_at, new_clock, new_clocks, halted_if}
+use Rattle.one_place.specs.Members.{member_of, dues_of, IsSeat, IsSeatOf, IsClockOf, AreSeats, AreClocks, AreKept, joined, gathered, state_of, blank_clock, blank_log, clock_at, log_at, new_clock, new_clocks}
 use Rattle.one_place.proofs.Events.{new_fed}
 use Rattle.one_place.proofs.Mapped.{map_next}
 use Rattle.one_place.proofs.Gathered.{queued_set, own_queue, queue_is, handed_is, left_is, gathered_same, none_gathered, none_queued}
@@ -144,12 +144,6 @@ clock_got now (Some x) s b cs xs ls f g kept is same to some at =
     let count : length xs ≡ length cs = ap length same in
     let within : g < length xs = grind (arith, nat_tests) in
     clock_here s b cs ls f (now x) kept is (omega (arith, within, count, to)) (at ∙ (λ k. slice_index_or (same k) (to k) (now x)))
-
-pub clock_past : (s : State) (b : Bool) (cs : List Clock) (ls : List FedLog) (f : ℕ) → AreKept cs ls → state_of b cs ls ≡ s → length cs ≤ f → length s.members ≤ f
-clock_past s b cs ls f kept is over =
-    let same = joined_length cs ls kept.seats in
-    let all : length (joined cs ls) ≡ length s.members = ap (λ (t : State). length t.members) is in
-    omega (arith, same, all, over)
 
 -- a federate of the state has a clock
 pub clocks_count : (s : State) (b : Bool) (cs : List Clock) (ls : List FedLog) (f : ℕ) → AreKept cs ls → state_of b cs ls ≡ s → f < length s.members → f < length cs

@@ -14,6 +14,7 @@ use Rattle.federation_plan.specs.Interfaces.{federate_at}
 use Rattle.federation_plan.specs.Plan.{Federation}
 use Rattle.federation_plan.specs.Wires.{wires_of}
 use Rattle.one_place.specs.Reference.{names_in, course_at, first_sight, plays_of, HasReferenceLogs}
+use Rattle.one_place.specs.Machine.{Stage}
 use Rattle.one_place.specs.Run.{play_of, IsActor, AreActors, Goes, AreFollowing, actor_at, first_actors, begun_stage, Played}
 
 -- one actor for each federate
@@ -39,6 +40,13 @@ first_ready (fed ∷ feds) (script ∷ scripts) rules a among = elim among [
 
 pub first_are : (p : Federation) (scripts : List Course) → length scripts ≡ length p.federates → Each IsCourse scripts → AreActors (begun_stage p).state (first_actors p.federates scripts)
 first_are p scripts each rules = record { each = actors_count p.federates scripts each ∙ sym (begun_count p); all = first_ready p.federates scripts rules }
+
+-- and so are those that were made for these federates, where the machine has begun
+pub made_are : (p : Federation) (scripts : List Course) (machine : Stage) (actors : List Actor) (feds : List FederateRecord) → length scripts ≡ length p.federates → Each IsCourse scripts →
+    machine ≡ begun_stage p → actors ≡ first_actors feds scripts → feds ≡ p.federates → AreActors machine.state actors
+made_are p scripts machine actors feds each rules begun made same =
+    subst (λ (s : Stage). AreActors s.state actors) (sym begun)
+    (subst (λ (xs : List Actor). AreActors (begun_stage p).state xs) (sym (made ∙ ap (λ (fs : List FederateRecord). first_actors fs scripts) same)) (first_are p scripts each rules))
 
 -- one more actor
 pub actors_more : (feds : List FederateRecord) (actors now : List Actor) (script : Course) (rest : List Course) (d : FederateRecord) → length actors + length (script ∷ rest) ≡ length feds →
@@ -97,6 +105,13 @@ first_follow p scripts each =
   where
     at_first : (f : ℕ) → Goes (names_in p) (plays_of p scripts) f (begun_member (new_member (federate_at p.federates f).settings)) 0 (record { script = course_at scripts f; view = first_sight (federate_at p.federates f) })
     at_first f lives more k = let same : 0 + k ≡ k = omega arith in ap (λ j. plays_of p scripts f j more) same
+
+pub made_follow : (p : Federation) (scripts : List Course) (machine : Stage) (actors : List Actor) (feds : List FederateRecord) → length scripts ≡ length p.federates →
+    machine ≡ begun_stage p → actors ≡ first_actors feds scripts → feds ≡ p.federates → AreFollowing (plays_of p scripts) machine (replicate (length p.federates) 0) actors
+made_follow p scripts machine actors feds each begun made same =
+    let none = replicate (length p.federates) 0 in
+    subst (λ (s : Stage). AreFollowing (plays_of p scripts) s none actors) (sym begun)
+    (subst (λ (xs : List Actor). AreFollowing (plays_of p scripts) (begun_stage p) none xs) (sym (made ∙ ap (λ (fs : List FederateRecord). first_actors fs scripts) same)) (first_follow p scripts each))
 
 -- what is played out to its end is the reference run
 pub reference_logs : (p : Federation) (scripts : List Course) (end : State) (last : List ℕ) (logs : List FedLog) →

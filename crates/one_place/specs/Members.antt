@@ -1,6 +1,6 @@
 -- What the code keeps of the machine's state: what changes often of each federate with its queue, and the logs apart.
-use Rattle.std.specs.Prelude.{ℕ, suc, ◌+◌, ◌<◌, ◌≡◌, ◌==◌, Bool, List, [], ◌∷◌, ◌++◌, length, map, slice_index_or, slice_set, if◌then◌else◌}
-use Rattle.std.specs.List.{filter}
+use Rattle.std.specs.Prelude.{ℕ, suc, ◌+◌, ◌<◌, ◌≡◌, Bool, List, [], ◌∷◌, ◌++◌, length, map, slice_index_or, slice_set}
+use Rattle.std.specs.List.{filter, AllByRecursion}
 use Rattle.hel_lists.specs.Members.{Each}
 use Rattle.helics_time.specs.Settings.{Terms}
 use Rattle.helics_time.specs.Stamp.{At, IsDue}
@@ -11,9 +11,8 @@ use Rattle.interface_names.specs.declared.records.FederateRecord.{FederateRecord
 use Rattle.machine_laws.specs.declared.logs.LogEnd.{LogEnd}
 use Rattle.machine_laws.specs.declared.logs.LogEnd.TheVariants.{Ended, FailedText, Open}
 use Rattle.machine_laws.specs.declared.logs.FedLog.{FedLog}
-use Rattle.machine_laws.specs.Machine.{Member, State, default_terms, member_at, event_in, ended_member, end_of}
-use Rattle.time_state.specs.Fed.{Fed, IsFed, created, event_of, is_live, zero_stamp}
-use Rattle.time_state.specs.declared.Cause.TheVariants.{Halted}
+use Rattle.machine_laws.specs.Machine.{Member, State, default_terms, member_at, event_in, end_of}
+use Rattle.time_state.specs.Fed.{Fed, IsFed, created, event_of, zero_stamp}
 use Rattle.time_state.specs.declared.Phase.TheVariants.{Created}
 use Rattle.one_place.specs.declared.seat.Clock.{Clock}
 
@@ -55,8 +54,7 @@ pub record IsSeatOf (c : Clock) (l : FedLog) (m : Member) (queue : List Parcel) 
   pub queued : c.queue ≡ queue
 
 abbrev pub AreClocks : List Clock → Type 0
-AreClocks [] = Unit {0}
-AreClocks (c ∷ cs) = IsClock c × AreClocks cs
+AreClocks clocks = AllByRecursion IsClock clocks
 
 abbrev pub AreSeats : List Clock → List FedLog → Type 0
 AreSeats [] [] = Unit {0}
@@ -141,16 +139,3 @@ pub record IsClockOf (s : State) (f : ℕ) (c : Clock) : Type 0 where
   pub time : c.time ≡ (member_at s f).time
   pub seq : c.seq ≡ (member_at s f).seq
   pub event : c.event ≡ event_in s f
-
--- what a halt makes of a member
-abbrev pub halted_member : ℕ → Member → Member
-halted_member f m = if is_live m.time.phase then ended_member m (Halted f) else m
-
--- and of one that may stand at another core
-abbrev pub halted_if : Bool → ℕ → Member → Member
-halted_if there f m = if there then halted_member f m else m
-
--- the members from number i on, of which these are the cores, where those of one core are halted
-abbrev pub halted_at : List ℕ → ℕ → ℕ → ℕ → List Member → List Member
-halted_at cores core f i [] = []
-halted_at cores core f i (m ∷ ms) = halted_if (slice_index_or cores i 0 == core) f m ∷ halted_at cores core f (suc i) ms

@@ -1,5 +1,5 @@
 -- The reference run of a scenario, and its logs.
-use Rattle.std.specs.Prelude.{ℕ, zero, suc, ◌≡◌, Option, None, Some, List, [], ◌∷◌, length, replicate, slice_index_or}
+use Rattle.std.specs.Prelude.{ℕ, zero, suc, ◌≡◌, List, [], ◌∷◌, length, replicate, slice_index_or}
 use Rattle.hel_values.specs.declared.EndRef.{EndRef}
 use Rattle.value_updates.specs.Input.{opening}
 use Rattle.fed_script.specs.declared.action.Action.{Action}
@@ -7,11 +7,10 @@ use Rattle.fed_script.specs.declared.action.Action.TheVariants.{Publish, Send, R
 use Rattle.fed_script.specs.declared.word.Word.{Word}
 use Rattle.fed_script.specs.View.{Sight, granted}
 use Rattle.fed_script.specs.Script.{Course, next_action, words_after, view_after}
-use Rattle.interface_names.specs.declared.records.EndRecord.{EndRecord}
 use Rattle.interface_names.specs.declared.records.FederateRecord.{FederateRecord}
-use Rattle.federation_plan.specs.Interfaces.{one_in, end_name, federate_at}
+use Rattle.federation_plan.specs.Interfaces.{end_name, endpoint_at, federate_at}
 use Rattle.federation_plan.specs.Plan.{Federation}
-use Rattle.federation_plan.specs.Wires.{endpoint_in, wires_of}
+use Rattle.federation_plan.specs.Wires.{wires_of}
 use Rattle.machine_laws.specs.declared.logs.FedLog.{FedLog}
 use Rattle.machine_laws.specs.declared.logs.LogEntry.{LogEntry}
 use Rattle.machine_laws.specs.Plan.{Plan}
@@ -28,13 +27,9 @@ doing_of (Request time mode) = requests time mode
 doing_of Finish = finishes
 doing_of (Fail text) = fails text
 
--- the global names of endpoints: there is none past the last
+-- what the federation calls endpoints
 abbrev pub names_in : Federation → EndRef → List ℕ
-names_in p e = named (endpoint_in p.federates e.fed e.index)
-  where
-    named : Option EndRecord → List ℕ
-    named None = []
-    named (Some item) = end_name (one_in (federate_at p.federates e.fed).name e.fed e.index item)
+names_in p e = end_name (endpoint_at p.federates e)
 
 -- what a federate sees after a grant
 abbrev pub taken_over : (EndRef → List ℕ) → Sight → LogEntry → Sight

@@ -14,11 +14,10 @@ ghost use Rattle.one_place.specs.Machine.{refusal_at, stage_after, MayWant, Step
 use crate::members::Members;
 use crate::{LogEntry, Logs, MachineStep, Plan, Unlawful, refusal};
 use fed_script::EndpointNames;
-use federation_plan::{NodeKind, Tree};
+use federation_plan::{NodeKind, Tree, endpoint_name};
 use hel_lists::{OutOfMemory, Text};
 use hel_values::{EndRef, Payload, TextValue, Value};
 use helics_time::Stamp;
-use interface_names::global_name;
 use iteration_rules::Mode;
 use std::alloc::Global;
 use std::marker::Model;
@@ -472,13 +471,6 @@ impl EndpointNames for Machine {
     ghost name_of = { λ machine e. names_in machine.plan e };
 
     fn name(&self, alloc: Global, endpoint: EndRef) -> Result<Text, OutOfMemory> {
-        let federates = self.plan.federates();
-        let Some(federate) = federates.get(usize::from(endpoint.fed)) else {
-            return Ok(Text::new(alloc));
-        };
-        match federate.endpoints.get(usize::from(endpoint.index)) {
-            Some(end) => global_name(alloc, federate.name.as_str(), end.name.as_str(), end.global),
-            None => Ok(Text::new(alloc)),
-        }
+        endpoint_name(alloc, self.plan.federates(), endpoint)
     }
 }

@@ -7,10 +7,10 @@ ghost use Rattle.helics_time.specs.Time.{max_time};
 ghost use Rattle.due_queue.specs.Order.{insert_all};
 ghost use Rattle.time_state.specs.Fed.{IsFed, enter_refusal, request_refusal, is_asking, is_live};
 ghost use Rattle.machine_laws.specs.contracts.logs.FedLog.{the_row as log_row};
-ghost use Rattle.machine_laws.specs.Machine.{new_member, member_at, event_in, cut_in, dues_to, handed_in, left_in, with_member, begun_member, entered_member, called_member, requested_member, granted_member, ended_member, failed_member, limit_refusal, log_of};
+ghost use Rattle.machine_laws.specs.Machine.{new_member, member_at, event_in, cut_in, dues_to, handed_in, left_in, with_member, begun_member, entered_member, called_member, requested_member, granted_member, ended_member, failed_member, halted_if, halted_from, limit_refusal, log_of};
 ghost use Rattle.interface_names.specs.declared.records.FederateRecord.{FederateRecord};
 ghost use Rattle.federation_plan.specs.Plan.{IsKept};
-ghost use Rattle.one_place.specs.Members.{AreMade, IsClockOf, new_clocks, blank_log, log_at, halted_if, halted_at};
+ghost use Rattle.one_place.specs.Members.{AreMade, IsClockOf, new_clocks, blank_log, log_at};
 
 use crate::queues;
 use crate::seat::{self, Clock};
@@ -291,7 +291,7 @@ impl Members {
     /// Each federate that stands at a core and lives is halted by `fed`. The list has the core of each.
     pub fn halt(&mut self, cores: &[u16], core: u16, fed: u16)
         requires { length cores.now ≡ length self.old.members }
-        ensures { self.new ≡ record self.old { members = halted_at cores.now core fed 0 self.old.members } }
+        ensures { self.new ≡ record self.old { members = halted_from (λ i. slice_index_or cores.now i 0) core fed 0 self.old.members } }
     {
         for at in 0..cores.len() {
             self.halt_at(at, cores[at] == core, fed);

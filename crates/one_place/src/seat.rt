@@ -7,8 +7,8 @@ ghost use Rattle.helics_time.specs.Time.{max_time};
 ghost use Rattle.due_queue.specs.Item.{is_due};
 ghost use Rattle.due_queue.specs.Order.{enqueue};
 ghost use Rattle.time_state.specs.Fed.{IsFed, event_of, cut_of, enter_refusal, request_refusal, is_asking, is_live};
-ghost use Rattle.machine_laws.specs.Machine.{begun_member, entered_member, requested_member, granted_member, ended_member, failed_member};
-ghost use Rattle.one_place.specs.Members.{dues_of, member_of, new_clock, IsSeat, IsSeatOf, with_queue, taken_back, halted_if};
+ghost use Rattle.machine_laws.specs.Machine.{begun_member, entered_member, requested_member, granted_member, ended_member, failed_member, halted_if};
+ghost use Rattle.one_place.specs.Members.{dues_of, member_of, new_clock, IsSeat, IsSeatOf, with_queue, taken_back};
 
 use due_queue::{DueQueue, Item};
 use hel_lists::OutOfMemory;

@@ -1,5 +1,5 @@
 -- A broker's words, and the federates that it counts: `-f N`, `-fN`, `--federates N` or `--federates=N`.
-use Rattle.std.specs.Prelude.{ℕ, ◌==◌, ◌&&◌, ◌||◌, Bool, false, not, nat_eq, if◌then◌else◌, List, [], ◌∷◌, length, drop, codes, Option, Some, None, unwrap_or}
+use Rattle.std.specs.Prelude.{ℕ, ◌==◌, ◌&&◌, ◌||◌, Bool, false, not, nat_eq, if◌then◌else◌, List, [], ◌∷◌, length, drop, codes, Option, Some, None, unwrap_or, slice_index_or}
 use Rattle.std.specs.Option.{option_or}
 use Rattle.std.specs.List.{list_all, starts_with, ends_with}
 use Rattle.std.specs.Str.{bytes_eq}
@@ -21,8 +21,7 @@ abbrev pub is_other : ℕ → List ℕ → Bool
 is_other count digits = not (number_of digits == count)
 
 abbrev pub first_word : List (List ℕ) → List ℕ
-first_word [] = []
-first_word (word ∷ words) = word
+first_word words = slice_index_or words 0 []
 
 -- what stands behind a prefix
 abbrev pub after : List ℕ → List ℕ → Option (List ℕ)

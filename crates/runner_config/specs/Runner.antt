@@ -1,5 +1,5 @@
 -- A runner file.
-use Rattle.std.specs.Prelude.{ℕ, ◌<◌, AllPairs, Bool, false, not, if◌then◌else◌, List, length, map, filter, find, count_by, codes, Option, Some, None, option_and_then, unwrap_or, ok_or, Ok, Err, ⊤}
+use Rattle.std.specs.Prelude.{ℕ, ◌<◌, AllPairs, Bool, false, not, if◌then◌else◌, List, length, map, filter, find, codes, Option, Some, None, option_and_then, unwrap_or, ok_or, Ok, Err, ⊤}
 use Rattle.serde_json.specs.Data.{Data, Items}
 use Rattle.serde_json.specs.Find.{as_array}
 use Rattle.json_reading.specs.Keys.{Member, object_of, json_of}
@@ -32,9 +32,6 @@ is_broker_listed e = is_broker e.words
 abbrev pub federates_of : List Listed → List Listed
 federates_of entries = filter (λ (e : Listed). not (is_broker_listed e)) entries
 
-abbrev pub federate_count : List Listed → ℕ
-federate_count entries = count_by (λ (e : Listed). not (is_broker_listed e)) entries
-
 abbrev pub no_cause : Option TreeCause → Told ⊤
 no_cause None = Ok tt
 no_cause (Some cause) = Err (BadTree cause)
@@ -45,7 +42,7 @@ counted count None = Ok tt
 counted count (Some broker) = refused_where (counts_other count broker.words) (BrokerCount broker.place)
 
 abbrev pub check_count : List Listed → Told ⊤
-check_count entries = counted (federate_count entries) (find is_broker_listed entries)
+check_count entries = counted (length (federates_of entries)) (find is_broker_listed entries)
 
 -- an entry with its core's number
 abbrev pub entry_in : TreeText → Listed → Entry

@@ -1,6 +1,6 @@
 //! Joining of paths (docs/FORMATS.md, Paths).
 ghost use Rattle.std.specs.Prelude.{◌≡◌, IfOk, string_bytes};
-ghost use Rattle.runner_config.specs.Paths.{folder_of, begins_with_slash, joined};
+ghost use Rattle.runner_config.specs.Paths.{folder_of, joined};
 
 use hel_lists::OutOfMemory;
 use std::alloc::Global;
@@ -15,17 +15,11 @@ pub fn folder_of(path: &str) -> &str
     }
 }
 
-fn begins_with_slash(path: &[u8]) -> bool
-    ensures { result ≡ begins_with_slash path.now }
-{
-    matches!(path, [b'/', ..])
-}
-
 /// The path `path` as it is seen from `folder`.
 pub fn joined(alloc: Global, folder: &str, path: &str) -> Result<String, OutOfMemory>
     ensures { IfOk result (λ text. string_bytes text ≡ joined folder.now path.now) }
 {
-    if begins_with_slash(path.as_bytes()) || folder == "." {
+    if path.starts_with("/") || folder == "." {
         return Ok(String::from_str(alloc, path)?);
     }
     if path == "." {

@@ -6,7 +6,7 @@ ghost use Rattle.federation_plan.specs.Tree.{IsValid};
 ghost use Rattle.runner_config.specs.Told.{Gives, Answers};
 ghost use Rattle.runner_config.specs.Nodes.{IsNodes, cause_of};
 ghost use Rattle.runner_config.specs.Entries.{AreInOrder};
-ghost use Rattle.runner_config.specs.Runner.{federates_of, federate_count, check_count, list_of, entry_in, runner_with, runner_in, runner_of, tree_with, InOrder};
+ghost use Rattle.runner_config.specs.Runner.{federates_of, check_count, list_of, entry_in, runner_with, runner_in, runner_of, tree_with, InOrder};
 
 use crate::counts::{counts_other, is_broker};
 use crate::entries::{Listed, entries, has_federate, sole};
@@ -118,7 +118,7 @@ fn list_of(alloc: Global, object: &Object) -> Result<Option<&[Value]>, OutOfMemo
 }
 
 fn federate_count(entries: &[Listed]) -> usize
-    ensures { result ≡ federate_count entries.now }
+    ensures { result ≡ length (federates_of entries.now) }
 {
     entries
         .iter()

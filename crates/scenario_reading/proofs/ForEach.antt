@@ -2,7 +2,7 @@
 use Rattle.std.proofs.Common.{◌≡◌, ℕ, ◌+◌, suc, ◌<◌, ◌≤◌, List, [], ◌∷◌, ◌++◌, length, get_or, drop, drop-cons, add-one, Option, Ok, Err, refl, subst, sym, ap, ◌∙◌}
 use Rattle.std.proofs.Math.ListN.{drop_of_length-le}
 use Rattle.scenario_reading.specs.declared.unread.Unread.{Unread}
-use Rattle.scenario_reading.specs.Order.{Order, ends, ◌>>=◌, for_each, Reads}
+use Rattle.scenario_reading.specs.Order.{Order, ends, for_each, Reads}
 use Rattle.scenario_reading.specs.Following.{Follows}
 use Rattle.scenario_reading.proofs.Orders.{Continues, item_then, reads_same, follows_same, goes_on, ends_there, ends_well}
 

@@ -7,7 +7,7 @@ use Rattle.runner_config.specs.declared.reading.Runner.{Runner}
 use Rattle.scenario_reading.specs.declared.unread.Unread.{Unread}
 use Rattle.scenario_reading.specs.declared.scene.Setting.{Setting}
 use Rattle.scenario_reading.specs.declared.scene.Scenario.{Scenario}
-use Rattle.scenario_reading.specs.Order.{ends, ◌>>=◌, for_each, bytes_of, Reads}
+use Rattle.scenario_reading.specs.Order.{ends, for_each, bytes_of, Reads}
 use Rattle.scenario_reading.specs.Following.{Follows}
 use Rattle.scenario_reading.specs.Verdict.{Says}
 use Rattle.scenario_reading.specs.Fitting.{setting_seen, scenario_seen, setting_of, scenario_of}

@@ -5,20 +5,20 @@ ghost use Rattle.std.specs.Option.{is_none};
 ghost use Rattle.hel_lists.specs.Members.{Each};
 ghost use Rattle.fed_script.specs.Script.{IsCourse};
 ghost use Rattle.federation_plan.specs.Tree.{IsValid};
-ghost use Rattle.federation_plan.specs.Interfaces.{publication_at, publication_interface, endpoint_at, pub_name, end_name};
 ghost use Rattle.runner_config.specs.Runner.{tree_with};
 ghost use Rattle.scenario_reading.specs.Verdict.{Says, unless_refused, unrefused, nothing};
-ghost use Rattle.scenario_reading.specs.Fitting.{setting_seen, scenario_seen, federates_of, scripts_of, cores_of, is_broker, is_core, is_deep, tree_refusal, join_refusal, names_refusal, federate_name, plan_told, plan_refusal, script_refusal, scripts_in, setting_of, scenario_of};
+ghost use Rattle.scenario_reading.specs.Fitting.{setting_seen, scenario_seen, federates_of, scripts_of, cores_of, is_broker, is_core, is_deep, tree_refusal, join_refusal, names_refusal, plan_told, plan_refusal, script_refusal, scripts_in, setting_of, scenario_of};
 
 use crate::refusal::Refusal;
 use crate::scene::{Scenario, Setting};
 use crate::unread::Unread;
 use fed_config::FederateConfig;
 use fed_script::Script;
-use federation_plan::{NodeKind, NodeRow, Plan, PlanRefusal, Tree};
+use federation_plan::{
+    NodeKind, NodeRow, Plan, PlanRefusal, Tree, endpoint_name, federate_name, publication_name,
+};
 use hel_lists::{Copied, Items, OutOfMemory, Text};
-use hel_values::EndRef;
-use interface_names::{FederateRecord, Registry, RegistryRefusal, global_name};
+use interface_names::{FederateRecord, Registry, RegistryRefusal};
 use runner_config::{Entry, Runner};
 use std::alloc::Global;
 
@@ -105,81 +105,18 @@ fn join(alloc: Global, registry: &mut Registry, federate: FederateRecord) -> Res
 
 // ---- the plan
 
-// The name of a federate, and a blank one where there is none of this number.
-fn federate_name(registry: &Registry, f: u16) -> &str
-    ensures { result.now ≡ federate_name registry.now f }
-{
-    if usize::from(f) < registry.len() {
-        registry.federate(f).name.as_str()
-    } else {
-        ""
-    }
-}
-
-// The name that its federate gave a publication, and whether it is global; blank and not where there is none.
-fn publication_called(registry: &Registry, at: EndRef) -> (&str, bool)
-    ensures name { result.0.now ≡ (publication_at registry.now at).name }
-    ensures global { result.1 ≡ (publication_at registry.now at).global }
-{
-    if usize::from(at.fed) >= registry.len() {
-        return ("", false);
-    }
-    let publications = registry.federate(at.fed).publications.as_slice();
-    match publications.get(usize::from(at.index)) {
-        Some(publication) => (publication.name.as_str(), publication.global),
-        None => ("", false),
-    }
-}
-
-// The same of an endpoint.
-fn endpoint_called(registry: &Registry, at: EndRef) -> (&str, bool)
-    ensures name { result.0.now ≡ (endpoint_at registry.now at).item.name }
-    ensures global { result.1 ≡ (endpoint_at registry.now at).item.global }
-{
-    if usize::from(at.fed) >= registry.len() {
-        return ("", false);
-    }
-    let endpoints = registry.federate(at.fed).endpoints.as_slice();
-    match endpoints.get(usize::from(at.index)) {
-        Some(endpoint) => (endpoint.name.as_str(), endpoint.global),
-        None => ("", false),
-    }
-}
-
-// What the federation calls a publication.
-fn publication_name(
-    alloc: Global,
-    registry: &Registry,
-    publication: EndRef,
-) -> Result<Text, OutOfMemory>
-    ensures { IfOk result (λ name. name ≡ pub_name (publication_interface registry.now publication)) }
-{
-    let owner = federate_name(registry, publication.fed);
-    let (name, global) = publication_called(registry, publication);
-    global_name(alloc, owner, name, global)
-}
-
-// What the federation calls an endpoint.
-fn endpoint_name(alloc: Global, registry: &Registry, endpoint: EndRef) -> Result<Text, OutOfMemory>
-    ensures { IfOk result (λ name. name ≡ end_name (endpoint_at registry.now endpoint)) }
-{
-    let owner = federate_name(registry, endpoint.fed);
-    let (name, global) = endpoint_called(registry, endpoint);
-    global_name(alloc, owner, name, global)
-}
-
 // A reason against a plan, told by names; none for want of memory.
 fn plan_told(
     alloc: Global,
-    registry: &Registry,
+    federates: &[FederateRecord],
     refusal: PlanRefusal,
 ) -> Result<Option<Refusal>, OutOfMemory>
-    ensures { IfOk result (λ told. told ≡ plan_told registry.now refusal) }
+    ensures { IfOk result (λ told. told ≡ plan_told federates.now refusal) }
 {
     let told = match refusal {
         PlanRefusal::NoFederates => Refusal::NoFederates,
         PlanRefusal::MissingRequired { fed, name } => Refusal::MissingRequired {
-            federate: Text::from_str(alloc, federate_name(registry, fed))?,
+            federate: Text::from_str(alloc, federate_name(federates, usize::from(fed)))?,
             target: name,
         },
         PlanRefusal::KindMismatch {
@@ -187,12 +124,12 @@ fn plan_told(
             publication,
             ..
         } => Refusal::KindMismatch {
-            federate: Text::from_str(alloc, federate_name(registry, fed))?,
-            publication: publication_name(alloc, registry, publication)?,
+            federate: Text::from_str(alloc, federate_name(federates, usize::from(fed)))?,
+            publication: publication_name(alloc, federates, publication)?,
         },
         PlanRefusal::FilterTarget(name) => Refusal::FilterTarget(name),
         PlanRefusal::ChainTooLong(endpoint) => {
-            Refusal::ChainTooLong(endpoint_name(alloc, registry, endpoint)?)
+            Refusal::ChainTooLong(endpoint_name(alloc, federates, endpoint)?)
         }
         PlanRefusal::OutOfMemory => return Ok(None),
     };
@@ -208,7 +145,7 @@ fn plan_of(alloc: Global, registry: &Registry, tree: Tree) -> Result<Plan, Unrea
 {
     match Plan::build(alloc, registry, tree) {
         Ok(plan) => Ok(plan),
-        Err(refusal) => match plan_told(alloc, registry, refusal)? {
+        Err(refusal) => match plan_told(alloc, registry.federates(), refusal)? {
             Some(refusal) => Err(Unread::Refused(refusal)),
             None => Err(Unread::OutOfMemory),
         },
@@ -275,16 +212,6 @@ fn first_missing(scripts: &[Option<Script>]) -> Option<usize>
     None
 }
 
-// The name of a federate, and a blank one where there is none of this number.
-fn name_at(federates: &[FederateRecord], f: usize) -> &str
-    ensures { result.now ≡ federate_name federates.now f }
-{
-    match federates.get(f) {
-        Some(federate) => federate.name.as_str(),
-        None => "",
-    }
-}
-
 fn check_scripts(
     alloc: Global,
     federates: &[FederateRecord],
@@ -294,7 +221,7 @@ fn check_scripts(
 {
     match first_missing(scripts) {
         Some(f) => {
-            let name = Text::from_str(alloc, name_at(federates, f))?;
+            let name = Text::from_str(alloc, federate_name(federates, f))?;
             Err(Unread::Refused(Refusal::NoScript(name)))
         }
         None => Ok(()),

@@ -50,7 +50,7 @@ fn told(alloc: Global, texts: &[(&str, &str)], to_run: bool) -> Result<String, F
     }
 }
 
-// Reading says this.
+// Reading says this. A failure shows the last of the texts.
 fn says(
     rt: &impl Abort,
     alloc: Global,
@@ -59,7 +59,8 @@ fn says(
     said: &str,
 ) -> Result<(), Fail> {
     let answer = told(alloc, texts, to_run)?;
-    assert_eq!(rt; answer.as_str(), said);
+    let last = texts.last().map_or("", |(_, text)| *text);
+    assert_eq!(rt; (answer.as_str(), last), (said, last));
     Ok(())
 }
 

@@ -210,14 +210,6 @@ impl FedTime {
         self.cut_at(self.event(least))
     }
 
-    /// What the next grant tells.
-    pub fn next_grant(&self, least: Option<Stamp>) -> Grant
-        requires { ForSome least IsDue }
-        ensures { result ≡ grant_of self.now (option_to_list least) }
-    {
-        self.next_grant_at(self.event(least))
-    }
-
     /// Grants what it waits for.
     pub fn grant(&mut self, least: Option<Stamp>) -> Grant
         requires asks { is_asking self.old.phase ≡ true }
@@ -259,7 +251,7 @@ impl FedTime {
         }
     }
 
-    /// `next_grant`, where `stamp` is the event.
+    /// What the next grant tells, where `stamp` is the event.
     pub fn next_grant_at(&self, stamp: Stamp) -> Grant
         ensures { result ≡ grant_at self.now stamp }
     {

@@ -2,6 +2,7 @@ ghost use Rattle.std.specs.Prelude.{IsTrue};
 ghost use Rattle.federation_plan.specs.Interfaces.{IsEndpoint, IsPublication};
 
 use super::*;
+use federation_plan::{endpoint_name, federate_name, publication_name};
 use hel_values::Value;
 use machine_laws::CallRefusal;
 
@@ -149,37 +150,53 @@ fn publications_have_targets(rt: HostRuntime) -> Result<(), Fail> {
     Ok(())
 }
 
-// What the federation calls an endpoint that it calls so.
-fn endpoint_name(alloc: Global, plan: &Plan, name: &str) -> Result<Text, Fail> {
-    match endpoint_of(plan, name) {
-        Some(end) => Ok(plan.endpoint_name(alloc, end)?),
-        None => Err(Fail::from("endpoint")),
-    }
-}
+// The interface of a federate's number and its own, and what the federation calls it as an endpoint
+// and as a publication: blank is what isn't there.
+const CALLED: [(u16, u16, &str, &str); 5] = [
+    (0, 1, "A/f", "A/q"),
+    (0, 3, "A/g", "A/"),
+    (0, 9, "A/", "A/"),
+    (1, 0, "B/e", "B/"),
+    (7, 0, "/", "/"),
+];
 
-fn publication_name(alloc: Global, plan: &Plan, at: EndRef) -> Result<Text, Fail> {
-    if is_publication(plan, at) {
-        Ok(plan.publication_name(alloc, at)?)
-    } else {
-        Err(Fail::from("publication"))
-    }
-}
-
-fn has_endpoint_name(rt: &impl Abort, alloc: Global, plan: &Plan) -> Result<(), Fail> {
-    let name = endpoint_name(alloc, plan, "A/f")?;
-    assert!(rt; name.as_str() == "A/f");
+fn is_endpoint_name(
+    rt: &impl Abort,
+    alloc: Global,
+    federates: &[FederateRecord],
+    at: EndRef,
+    wanted: &str,
+) -> Result<(), Fail> {
+    let name = endpoint_name(alloc, federates, at)?;
+    assert_eq!(rt; name.as_str(), wanted);
     Ok(())
 }
 
-fn has_publication_name(rt: &impl Abort, alloc: Global, plan: &Plan) -> Result<(), Fail> {
-    let name = publication_name(alloc, plan, EndRef { fed: 0, index: 1 })?;
-    assert!(rt; name.as_str() == "A/q");
+fn is_publication_name(
+    rt: &impl Abort,
+    alloc: Global,
+    federates: &[FederateRecord],
+    at: EndRef,
+    wanted: &str,
+) -> Result<(), Fail> {
+    let name = publication_name(alloc, federates, at)?;
+    assert_eq!(rt; name.as_str(), wanted);
+    Ok(())
+}
+
+fn have_names(rt: &impl Abort, alloc: Global, federates: &[FederateRecord]) -> Result<(), Fail> {
+    for (fed, index, endpoint, publication) in CALLED {
+        let at = EndRef { fed, index };
+        is_endpoint_name(rt, alloc, federates, at, endpoint)?;
+        is_publication_name(rt, alloc, federates, at, publication)?;
+    }
+    assert!(rt; federate_name(federates, 1) == "B");
+    assert!(rt; federate_name(federates, 2).is_empty());
     Ok(())
 }
 
 #[test]
 fn interfaces_have_names(rt: HostRuntime) -> Result<(), Fail> {
     let plan = plan(rt.alloc(), FEDERATES)?;
-    has_endpoint_name(&rt, rt.alloc(), &plan)?;
-    has_publication_name(&rt, rt.alloc(), &plan)
+    have_names(&rt, rt.alloc(), plan.federates())
 }

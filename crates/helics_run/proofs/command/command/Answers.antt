@@ -1,8 +1,7 @@
-use Rattle.std.proofs.Common.{◌∙◌, sym, inl, inr, refl, subst, List, ℕ, Err}
-use Rattle.hel_outside.specs.Faults.{Gains}
+use Rattle.std.proofs.Common.{◌∙◌, sym, inl, inr, refl, subst, List, ℕ}
+use Rattle.hel_outside.specs.Faults.{Rose, Gains}
 use Rattle.helics_run.specs.Command.{texts}
-use Rattle.helics_run.specs.Answers.{MayTell}
-use Rattle.helics_run.specs.declared.failure.Failure.TheVariants.{OutOfMemory}
+use Rattle.helics_run.specs.Answers.{CountsFaults, MayTell}
 use Rattle.helics_run.proofs.Once.{print_made, refusal_made, file_verb, refusal_verb, decided_by, not_both, told_stands, part_told, where_ok}
 use Rattle.helics_run.proofs.Stuck.{stuck_prints, whole_prints, sink_prints, sink_not_stuck}
 use Rattle.helics_run.proofs.command.command.Goals as goal
@@ -61,9 +60,9 @@ returns-in-Ok-refused_line-clause-complete g c = λ asks quiet none quiet_out qu
 pub returns-in-Err-FileFault-clause-part_of_err : goal.returns-in-Err-FileFault-clause-part_of_err
 returns-in-Err-FileFault-clause-part_of_err g c = λ rose.
     let verb = file_verb _ c.args.words.now.items _ _ _ c.deref.ensures.value c.in-Err-FileFault.field-0-is c.in-Err-FileFault.ensures.answers in
-    part_told _ _ _ _ _ _ _ (MayTell (g.F.Files.content c.args.files.now) (texts c.args.words.now.items)) c.tell-in-Err.ensures (inr (Err OutOfMemory, verb, refl)) rose
+    part_told _ _ _ _ _ _ _ (MayTell (g.F.Files.content c.args.files.now) (texts c.args.words.now.items) (Rose (g.O.Sink.faults c.args.out.now) (g.O.Sink.faults c.args.out.now)) (λ a. CountsFaults a (g.F.Files.faults c.args.files.now) (g.F.Files.faults c.answer.new.files) (g.F.Files.failed_path c.answer.new.files))) c.tell-in-Err.ensures (inr (inl (refl, verb))) rose
 
 pub returns-in-Err-Refused-clause-part_of_err : goal.returns-in-Err-Refused-clause-part_of_err
 returns-in-Err-Refused-clause-part_of_err g c = λ rose.
     let refuses = refusal_made _ c.args.words.now.items _ _ c.in-Err-Refused.refusal c.deref.ensures.value c.in-Err-Refused.field-0-is c.in-Err-Refused.ensures.answers in
-    part_told _ _ _ _ _ _ _ (MayTell (g.F.Files.content c.args.files.now) (texts c.args.words.now.items)) c.tell-in-Err-refused_line.ensures (inr (Err OutOfMemory, refusal_verb _ _ _ refuses, refl)) rose
+    part_told _ _ _ _ _ _ _ (MayTell (g.F.Files.content c.args.files.now) (texts c.args.words.now.items) (Rose (g.O.Sink.faults c.args.out.now) (g.O.Sink.faults c.args.out.now)) (λ a. CountsFaults a (g.F.Files.faults c.args.files.now) (g.F.Files.faults c.answer.new.files) (g.F.Files.failed_path c.answer.new.files))) c.tell-in-Err-refused_line.ensures (inr (inl (refl, refusal_verb _ _ _ refuses))) rose

@@ -1,28 +1,21 @@
-use Rattle.std.proofs.Common.{◌≡◌, ◌∙◌, List, ap, sym, subst, length}
+use Rattle.std.proofs.Common.{◌≡◌, ◌∙◌, ap, subst, length}
 use Rattle.std.specs.Prelude.{replicate}
 use Rattle.machine_laws.specs.Moves.{Play}
-use Rattle.one_place.specs.declared.actor.Actor.{Actor}
-use Rattle.interface_names.specs.declared.records.FederateRecord.{FederateRecord}
 use Rattle.one_place.specs.Machine.{Stage}
 use Rattle.federation_plan.specs.Plan.{Federation}
 use Rattle.federation_plan.specs.Wires.{wires_of}
 use Rattle.one_place.specs.Reference.{plays_of, HasReferenceLogs}
-use Rattle.one_place.specs.Run.{play_of, wires_at, AreActors, AreFollowing, first_actors, begun_stage, Played}
+use Rattle.one_place.specs.Run.{play_of, wires_at, begun_stage, Played}
 use Rattle.one_place.specs.Scene.{Scene}
-use Rattle.one_place.proofs.Starting.{first_are, first_follow}
+use Rattle.one_place.proofs.Starting.{made_are, made_follow}
 use Rattle.one_place.specs.Orders.{HasLogsUpToFailure, IsUpTo}
 use Rattle.one_place.proofs.Endings.{failure_logs, unfailed_reference}
 use Rattle.one_place.proofs.orders.up_to_failure.Goals as goal
 
 pub play_up_to_failure-requires-clause-actors : goal.play_up_to_failure-requires-clause-actors
 play_up_to_failure-requires-clause-actors c =
-    let p : Federation = c.scenario.inside.plan in
-    let scripts = c.scenario.inside.scripts in
-    let machine : c.in_ok-machine.machine ≡ begun_stage p = c.in_ok-machine.ensures in
-    let actors : c.deref_mut.result.now ≡ first_actors p.federates scripts =
-    c.deref_mut.ensures.value ∙ c.in_ok-actors.ensures ∙ ap (λ (feds : List FederateRecord). first_actors feds scripts) c.federates.ensures.federates in
-    subst (λ (s : Stage). AreActors s.state c.deref_mut.result.now) (sym machine)
-    (subst (λ (xs : List Actor). AreActors (begun_stage p).state xs) (sym actors) (first_are p scripts c.scenario.invariant.each c.scenario.invariant.rules))
+    made_are c.scenario.inside.plan c.scenario.inside.scripts c.in_ok-machine.machine c.deref_mut.result.now _ c.scenario.invariant.each c.scenario.invariant.rules c.in_ok-machine.ensures
+    (c.deref_mut.ensures.value ∙ c.in_ok-actors.ensures) c.federates.ensures.federates
 
 pub returns : goal.returns
 returns c =
@@ -30,10 +23,8 @@ returns c =
     let scripts = c.scenario.inside.scripts in
     let none = replicate (length p.federates) 0 in
     let machine : c.in_ok-machine.machine ≡ begun_stage p = c.in_ok-machine.ensures in
-    let actors : c.deref_mut.result.now ≡ first_actors p.federates scripts =
-    c.deref_mut.ensures.value ∙ c.in_ok-actors.ensures ∙ ap (λ (feds : List FederateRecord). first_actors feds scripts) c.federates.ensures.federates in
-    let following = subst (λ (s : Stage). AreFollowing (plays_of p scripts) s none c.deref_mut.result.now) (sym machine)
-    (subst (λ (xs : List Actor). AreFollowing (plays_of p scripts) (begun_stage p) none xs) (sym actors) (first_follow p scripts c.scenario.invariant.each)) in
+    let following =
+    made_follow p scripts c.in_ok-machine.machine c.deref_mut.result.now _ c.scenario.invariant.each machine (c.deref_mut.ensures.value ∙ c.in_ok-actors.ensures) c.federates.ensures.federates in
     let out = c.in_ok-failed.ensures.logs (plays_of p scripts) none following in
     let failed = c.in_ok-failed.failed in
     let end : Play = play_of c.play_up_to_failure.new.machine out.0 in

@@ -2,7 +2,7 @@
 use Rattle.std.proofs.Common.{◌≡◌, refl, ap, sym, ◌∙◌, Some, None}
 use Rattle.std.specs.Prelude.{slice_get}
 use Rattle.std.specs.Option.{option_copied}
-use Rattle.fed_script.proofs.Inboxes.{first_of-head, letters_past, letters_within}
+use Rattle.fed_script.proofs.Inboxes.{letters_past, letters_within}
 use Rattle.fed_script.proofs.view.View.oldest.Goals as goal
 
 pub returns-in-None : goal.returns-in-None
@@ -13,4 +13,4 @@ returns-in-None c =
 pub returns-in-Some : goal.returns-in-Some
 returns-in-Some c =
     let some : slice_get c.self.inside.inboxes c.args.endpoint ≡ Some c.in-Some.inbox.now = ap (λ n. slice_get c.self.inside.inboxes n) (sym c.from.ensures) ∙ sym c.get.ensures ∙ ap option_copied c.in-Some.is in
-    rw (← c.self.view_is) (rw (letters_within c.self.inside.inboxes c.args.endpoint c.in-Some.inbox.now some) (c.first.ensures ∙ first_of-head c.in-Some.inbox.now.letters))
+    rw (← c.self.view_is) (rw (letters_within c.self.inside.inboxes c.args.endpoint c.in-Some.inbox.now some) c.first.ensures)

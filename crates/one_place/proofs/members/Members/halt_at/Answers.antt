@@ -1,4 +1,4 @@
-use Rattle.one_place.specs.Members.{halted_if}
+use Rattle.machine_laws.specs.Machine.{halted_if}
 use Rattle.one_place.proofs.Seats.{found, changed, halted_seq}
 use Rattle.one_place.proofs.members.Members.halt_at.Goals as goal
 
