@@ -4,7 +4,7 @@ ghost use Rattle.helics_run.specs.Statuses.{number_of};
 /// How the program ends (docs/FORMATS.md, Statuses).
 #[derive(Clone, Copy, Debug, PartialEq, Eq)]
 pub enum Status {
-    /// What the words ask for was written, and no federate failed.
+    /// What the words ask for was written; no federate failed, and none is live at the end.
     Done = 0,
     /// A federate failed, and the run ended there.
     Halted = 1,
