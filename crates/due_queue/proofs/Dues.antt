@@ -111,7 +111,7 @@ filter_none p [] each = refl
 filter_none p (x ∷ xs) each = filter_fails p x xs (each x (inl refl)) ∙ filter_none p xs (λ y among. each y (inr among))
 
 -- a test that all pass leaves all
-filter_each : (p : Parcel → Bool) (xs : List Parcel) → Each (λ x. p x ≡ true) xs → filter p xs ≡ xs
+pub filter_each : (p : Parcel → Bool) (xs : List Parcel) → Each (λ x. p x ≡ true) xs → filter p xs ≡ xs
 filter_each p [] each = refl
 filter_each p (x ∷ xs) each = filter_holds p x xs (each x (inl refl)) ∙ ap (λ (l : List Parcel). x ∷ l) (filter_each p xs (λ y among. each y (inr among)))
 

@@ -1,5 +1,5 @@
 -- What is read within bounds is within them.
-use Rattle.std.proofs.Common.{◌≡◌, ◌∙◌, ℕ, ◌+◌, ◌≤◌, Bool, true, false, cond, refl, ap, sym, subst, List, [], ◌∷◌, length, decimal, Option, Some, None, Ok, Err, arith}
+use Rattle.std.proofs.Common.{◌≡◌, ◌∙◌, ℕ, suc, ◌+◌, ◌≤◌, Bool, true, false, cond, refl, ap, sym, subst, List, [], ◌∷◌, length, decimal, Option, Some, None, Ok, Err, arith}
 use Rattle.std.specs.Prelude.{unwrap_or, nat_lt}
 use Rattle.std.proofs.lemmas.Bool.{ltb-false}
 use Rattle.std.proofs.lemmas.Grind.{common_steps}
@@ -7,9 +7,10 @@ use Rattle.serde_json.specs.Data.{Data, Items, no_items, item}
 use Rattle.serde_json.specs.Find.{as_array}
 use Rattle.helics_time.specs.Time.{max_time, longest_span}
 use Rattle.json_reading.specs.Keys.{Member, member_at}
-use Rattle.json_reading.specs.Reading.{Read, ◌>>=◌, here, under, at_optional, at_needed, needed_at, each_from, item_count, few_items, list_up_to}
+use Rattle.json_reading.specs.Reading.{Read, ◌>>=◌, here, under, at_optional, at_needed, needed_at, each_from, few_items, list_up_to}
 use Rattle.json_reading.specs.declared.refusal.ConfigCause.TheVariants.{OutOfRange}
 use Rattle.json_reading.specs.Leaves.{time_up_to, whole_between}
+use Rattle.serde_json.specs.Events.{items_len}
 use Rattle.fed_config.specs.Federate.{most_items, setting_at, iterations_at, list_at}
 
 time_within : (most : ℕ) (d : Data) (t : ℕ) → time_up_to most d ≡ Ok t → t ≤ most
@@ -48,13 +49,13 @@ time_at_within key members t e = go (member_at key members) e
     go (Some m) e = read m (time_up_to max_time m.1) refl e
 
 -- a list that is read has as many items as the file's
-each_length : {A : Type 0} (read : Data → Read A) (i : ℕ) (ds : Items) (xs : List A) → each_from read i ds ≡ Ok xs → length xs ≡ item_count ds
+each_length : {A : Type 0} (read : Data → Read A) (i : ℕ) (ds : Items) (xs : List A) → each_from read i ds ≡ Ok xs → length xs ≡ items_len ds
 unfolding each_from
 each_length read i no_items xs e = let same : [] ≡ xs = cc in ap (λ ys. length ys) (sym same)
 each_length read i (item d ds) xs e = go (read d) (each_from read (i + 1) ds) (each_length read (i + 1) ds) e
   where
-    go : (r : Read _) (q : Read (List _)) → ((more : List _) → q ≡ Ok more → length more ≡ item_count ds)
-        → (under (decimal i) r >>= λ x. q >>= λ more. Ok (x ∷ more)) ≡ Ok xs → length xs ≡ item_count ds + 1
+    go : (r : Read _) (q : Read (List _)) → ((more : List _) → q ≡ Ok more → length more ≡ items_len ds)
+        → (under (decimal i) r >>= λ x. q >>= λ more. Ok (x ∷ more)) ≡ Ok xs → length xs ≡ suc (items_len ds)
     go (Err refusal) q later e = cc
     go (Ok x) (Err refusal) later e = cc
     go (Ok x) (Ok more) later e =
@@ -66,12 +67,12 @@ few_within most read d xs e = go (as_array d) e
   where
     go : (o : Option Items) → (here (few_items most o) >>= λ items. each_from read 0 items) ≡ Ok xs → length xs ≤ most
     go None e = cc
-    go (Some items) e = test (nat_lt most (item_count items)) refl e
+    go (Some items) e = test (nat_lt most (items_len items)) refl e
       where
-        test : (b : Bool) → nat_lt most (item_count items) ≡ b
+        test : (b : Bool) → nat_lt most (items_len items) ≡ b
             → (here (cond b (Err OutOfRange) (Ok items)) >>= λ held. each_from read 0 held) ≡ Ok xs → length xs ≤ most
         test true over e = cc
-        test false over e = omega (arith, each_length read 0 items xs e, ltb-false most (item_count items) over)
+        test false over e = omega (arith, each_length read 0 items xs e, ltb-false most (items_len items) over)
 
 pub list_within : {A : Type 0} (key : List ℕ) (read : Data → Read A) (members : List Member) (xs : List A)
     → list_at key read members ≡ Ok xs → length xs ≤ most_items

@@ -69,8 +69,8 @@ last_known feds e r accepted is =
     reroute_known feds one.0.item.kind r (both_none _ _ (both_none _ _ none).1).1 (sym (ap reroute_of one.2) ∙ filter.2)
 
 -- an endpoint by its reference is one of the list
-among : (feds : List FederateRecord) (r : EndRef) → IsEndpoint feds r → IsIn (endpoint_at feds r) (endpoints feds)
-among feds r within = among_all (λ (f : FederateRecord). f.endpoints) feds r blank_endpoint refl within
+pub endpoint_listed : (feds : List FederateRecord) (r : EndRef) → IsEndpoint feds r → IsIn (endpoint_at feds r) (endpoints feds)
+endpoint_listed feds r within = among_all (λ (f : FederateRecord). f.endpoints) feds r blank_endpoint refl within
 
 -- who has an endpoint on the list has endpoints
 has_some : (feds : List FederateRecord) (f : ℕ) (x : Interface EndRecord) → IsIn x (endpoints feds) → nat_eq f x.ref.fed ≡ true → has_endpoint feds f ≡ true
@@ -150,19 +150,19 @@ module _ (feds : List FederateRecord) where
     where
       go : nat_eq a e.ref.fed ≡ true → (o : Option EndRef) → rerouted e.ref ≡ o → sends_to (endpoint_of feds) feds o e.item f ≡ true → by_message feds a f ≡ true
       go from (Some r) is to =
-          reached a f e (endpoint_at feds r) listed (among feds r (last_known feds e.ref r accepted is)) from to
+          reached a f e (endpoint_at feds r) listed (endpoint_listed feds r (last_known feds e.ref r accepted is)) from to
           (ap (λ (o : Option EndRef). reaches_by (endpoint_of feds) o e (endpoint_at feds r)) is ∙ same_itself r)
       go from None is to = elim (cases_Bool e.item.targeted) [
         | inl targeted ↦
             let name = from_name (endpoint_of feds) e.item.destination_targets f (sym (ap (λ (b : Bool). if b then name_fed (endpoint_of feds) e.item.destination_targets f else has_endpoint feds f) targeted) ∙ to) in
             let q = name.1 in
-            reached a f e (endpoint_at feds q) listed (among feds q (endpoints_known feds name.0 q name.3)) from name.4
+            reached a f e (endpoint_at feds q) listed (endpoint_listed feds q (endpoints_known feds name.0 q name.3)) from name.4
             (ap (λ (o : Option EndRef). reaches_by (endpoint_of feds) o e (endpoint_at feds q)) is
             ∙ second_of (not e.item.targeted) _ _ (to_ref (endpoint_of feds) e.item.destination_targets name.0 q name.2 name.3))
         | inr free ↦
             let some : has_endpoint feds f ≡ true = sym (ap (λ (b : Bool). if b then name_fed (endpoint_of feds) e.item.destination_targets f else has_endpoint feds f) free) ∙ to in
             let q : EndRef = record { fed = f; index = 0 } in
-            reached a f e (endpoint_at feds q) listed (among feds q (ltb-true 0 (length (federate_at feds f).endpoints) some)) from (eq-eqb f f refl)
+            reached a f e (endpoint_at feds q) listed (endpoint_listed feds q (ltb-true 0 (length (federate_at feds f).endpoints) some)) from (eq-eqb f f refl)
             (ap (λ (o : Option EndRef). reaches_by (endpoint_of feds) o e (endpoint_at feds q)) is
             ∙ first_of (not e.item.targeted) _ _ (ap not free))
       ]
@@ -178,7 +178,7 @@ module _ (feds : List FederateRecord) where
       go to name named None means holds' = absurd (true≢false (sym holds'))
       go to name named (Some e) means holds' =
           let parts = and_parts (nat_eq a e.fed) (is_none (rerouted e)) holds' in
-          reached a f (endpoint_at feds e) x (among feds e (endpoints_known feds name e means)) listed parts.0 to
+          reached a f (endpoint_at feds e) x (endpoint_listed feds e (endpoints_known feds name e means)) listed parts.0 to
           (ap (λ (o : Option EndRef). reaches_by (endpoint_of feds) o (endpoint_at feds e) x) (none_is (rerouted e) parts.1)
           ∙ third_of (not (endpoint_at feds e).item.targeted) _ _ (to_ref (endpoint_of feds) x.item.source_targets name e named means))
 

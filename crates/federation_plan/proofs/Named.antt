@@ -9,7 +9,7 @@ use Rattle.std.proofs.lemmas.Slice.Eq.{bytes_eq-Decides}
 use Rattle.std.specs.Map.{update}
 use Rattle.interface_names.specs.Federate.{OwnName}
 use Rattle.interface_names.specs.Names.{global_name_of}
-use Rattle.federation_plan.specs.Called.{known_as}
+use Rattle.federation_plan.specs.Names.{known_as}
 use Rattle.hel_values.specs.declared.EndRef.{EndRef}
 use Rattle.interface_names.specs.declared.records.FederateRecord.{FederateRecord}
 use Rattle.federation_plan.specs.Interfaces.{Interface, one_in, interfaces_in, interfaces_from, named, federate_at, blank_federate}

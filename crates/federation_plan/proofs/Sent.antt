@@ -9,6 +9,8 @@ use Rattle.hel_lists.specs.Members.{IsIn, Each}
 use Rattle.hel_lists.proofs.Members.{in_map, in_filter, at_in}
 use Rattle.helics_time.specs.Settings.{IsTerms}
 use Rattle.hel_values.specs.declared.EndRef.{EndRef}
+use Rattle.dependency_paths.specs.Paths.{row_of, Leads}
+use Rattle.dependency_paths.specs.Paths.Leads.{by_link, by_way_of}
 use Rattle.interface_names.specs.declared.records.InputRecord.{InputRecord}
 use Rattle.interface_names.specs.declared.records.EndRecord.{EndRecord}
 use Rattle.interface_names.specs.declared.records.FilterKind.{FilterKind}
@@ -24,16 +26,16 @@ use Rattle.message_filters.specs.Chain.{last_of, kept_of, filtered_of}
 use Rattle.helics_time.specs.Time.{longest_span}
 use Rattle.message_filters.specs.Limits.{most_filters}
 use Rattle.hel_values.specs.Values.{same_end}
-use Rattle.federation_plan.specs.Interfaces.{Interface, name_ref, name_fed, naming, refs_naming, endpoint_of, publication_of, inputs, filters, endpoints, federate_at, blank_federate, blank_filter, blank_endpoint, endpoint_at, IsEndpoint, IsInput, IsPublication}
+use Rattle.federation_plan.specs.Interfaces.{Interface, name_ref, name_fed, naming, refs_naming, endpoint_of, publication_of, inputs, filters, endpoints, federate_at, blank_federate, blank_filter, endpoint_at, IsEndpoint, IsInput, IsPublication}
 use Rattle.federation_plan.specs.Chains.{sources, destinations, filter_of, chain_on, source_chain, destination_chain, later_by, filtered_at, may_send, reroutes}
 use Rattle.federation_plan.specs.Depends.{reaches_by, reaches, by_value, by_message, depends}
-use Rattle.federation_plan.specs.Plan.{IsKept, targets_of}
+use Rattle.federation_plan.specs.Plan.{IsKept, targets_of, Federation, IsFederation}
 use Rattle.federation_plan.proofs.Lists.{any_to, any_from}
 use Rattle.federation_plan.proofs.Named.{federate_within}
-use Rattle.federation_plan.proofs.Places.{stands_at, among_all, publications_known}
+use Rattle.federation_plan.proofs.Places.{stands_at, publications_known}
 use Rattle.federation_plan.proofs.Accepted.{IsAccepted, short}
 use Rattle.federation_plan.proofs.Attached.{same_itself}
-use Rattle.federation_plan.proofs.Depending.{last_known, from_name, from_ref, to_fed, reached}
+use Rattle.federation_plan.proofs.Depending.{last_known, from_name, from_ref, to_fed, reached, endpoint_listed}
 
 -- ---- what records keep
 
@@ -195,16 +197,13 @@ end_reached feds from to end may is = go (reroutes (source_chain feds from)) ref
 
 -- ---- dependencies
 
-listed : (feds : List FederateRecord) (r : EndRef) → IsEndpoint feds r → IsIn (endpoint_at feds r) (endpoints feds)
-listed feds r within = among_all (λ (f : FederateRecord). f.endpoints) feds r blank_endpoint refl within
-
 -- who is reached depends on the sender
 pub message_depends : (feds : List FederateRecord) (from end : EndRef) → IsEndpoint feds from → IsEndpoint feds end → reaches feds (endpoint_at feds from) (endpoint_at feds end) ≡ true →
     depends feds from.fed end.fed ≡ true
 unfolding depends
 message_depends feds from end known known' holds =
     or_right (by_value feds from.fed end.fed) (by_message feds from.fed end.fed)
-    (reached feds from.fed end.fed (endpoint_at feds from) (endpoint_at feds end) (listed feds from known) (listed feds end known') (eq-eqb from.fed from.fed refl) (eq-eqb end.fed end.fed refl) holds)
+    (reached feds from.fed end.fed (endpoint_at feds from) (endpoint_at feds end) (endpoint_listed feds from known) (endpoint_listed feds end known') (eq-eqb from.fed from.fed refl) (eq-eqb end.fed end.fed refl) holds)
 
 -- an input that targets a publication
 record IsTargeting (feds : List FederateRecord) (publication input : EndRef) : Type 0 where
@@ -255,3 +254,12 @@ depended_within feds a f holds = elim (or_cases (by_value feds a f) (by_message 
       let known = (stands_at (λ (x : FederateRecord). x.endpoints) feds one.0 one.1).within in
       subst (λ (k : ℕ). k < length feds) (sym (eqb-true a one.0.ref.fed own.0)) (federate_within (λ (x : FederateRecord). x.endpoints) feds one.0.ref.fed one.0.ref.index refl known)
 ]
+
+-- so is who begins a path
+path_within : (feds : List FederateRecord) (a f : ℕ) → Leads (depends feds) a f → a < length feds
+path_within feds _ _ (by_link a f linked) = depended_within feds a f linked
+path_within feds _ _ (by_way_of a b f first second) = path_within feds a b first
+
+-- and each ancestor
+pub ancestor_within : (p : Federation) → IsFederation p → (a f : ℕ) → IsIn a (row_of p.ancestors f) → a < length p.federates
+ancestor_within p is a f among = path_within p.federates a f ((is.closed.exact a f).0 among).1

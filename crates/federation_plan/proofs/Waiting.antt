@@ -1,53 +1,14 @@
 -- Pairs of federates that wait for each other.
 use Rattle.std.proofs.Common.{◌≡◌, inl, inr, ℕ, zero, suc, ◌<◌, ◌≤◌, Bool, true, List, [], ◌∷◌, length, get_or, drop, arith, refl, sym, ◌∙◌, ap, subst, eq-eqb}
-use Rattle.std.specs.Prelude.{◌&&◌, nat_eq}
+use Rattle.std.specs.Prelude.{nat_eq}
 use Rattle.std.specs.List.{list_any}
 use Rattle.std.specs.List.Sorted.{IsStrictlyIncreasing}
-use Rattle.std.proofs.lemmas.Bool.{or_cases, and_parts, eqb-true, cases_lt}
+use Rattle.std.proofs.lemmas.Bool.{eqb-true, cases_lt}
 use Rattle.std.proofs.lemmas.List.Kept.{AllPairs-from_increasing}
 use Rattle.hel_lists.specs.Members.{IsIn}
-use Rattle.interface_names.specs.declared.records.InputRecord.{InputRecord}
-use Rattle.interface_names.specs.declared.records.EndRecord.{EndRecord}
-use Rattle.interface_names.specs.declared.records.FederateRecord.{FederateRecord}
-use Rattle.dependency_paths.specs.Paths.{row_of, Leads}
-use Rattle.dependency_paths.specs.Paths.Leads.{by_link, by_way_of}
-use Rattle.federation_plan.specs.Interfaces.{Interface, name_fed, publication_of, inputs, endpoints}
-use Rattle.federation_plan.specs.Depends.{by_value, by_message, depends, reaches}
-use Rattle.federation_plan.specs.Plan.{Federation, IsFederation}
+use Rattle.federation_plan.specs.Plan.{Federation}
 use Rattle.federation_plan.specs.Waiting.{IsWaitPair}
 use Rattle.federation_plan.proofs.Lists.{any_from, any_to}
-use Rattle.federation_plan.proofs.Named.{federate_within}
-use Rattle.federation_plan.proofs.Places.{stands_at, publications_known}
-use Rattle.federation_plan.proofs.Depending.{from_name}
-
--- on whom another depends is a federate
-value_within : (feds : List FederateRecord) (a f : ℕ) → by_value feds a f ≡ true → a < length feds
-value_within feds a f holds =
-    let i = any_from (λ (i : Interface InputRecord). nat_eq f i.ref.fed && name_fed (publication_of feds) i.item.targets a) (inputs feds) holds in
-    let m = from_name (publication_of feds) i.0.item.targets a (and_parts _ _ i.2).1 in
-    subst (λ (g : ℕ). g < length feds) (sym (eqb-true a m.1.fed m.4))
-    (federate_within (λ (x : FederateRecord). x.publications) feds m.1.fed m.1.index refl (publications_known feds m.0 m.1 m.3))
-
-message_within : (feds : List FederateRecord) (a f : ℕ) → by_message feds a f ≡ true → a < length feds
-message_within feds a f holds =
-    let e = any_from (λ (e : Interface EndRecord). nat_eq a e.ref.fed && list_any (λ x. nat_eq f x.ref.fed && reaches feds e x) (endpoints feds)) (endpoints feds) holds in
-    subst (λ (g : ℕ). g < length feds) (sym (eqb-true a e.0.ref.fed (and_parts _ _ e.2).0))
-    (federate_within (λ (x : FederateRecord). x.endpoints) feds e.0.ref.fed e.0.ref.index refl (stands_at (λ (x : FederateRecord). x.endpoints) feds e.0 e.1).within)
-
-depends_within : (feds : List FederateRecord) (a f : ℕ) → depends feds a f ≡ true → a < length feds
-unfolding depends
-depends_within feds a f holds = elim (or_cases (by_value feds a f) (by_message feds a f) holds) [
-  | inl value ↦ value_within feds a f value
-  | inr message ↦ message_within feds a f message
-]
-
-leads_within : (feds : List FederateRecord) (a f : ℕ) → Leads (depends feds) a f → a < length feds
-leads_within feds _ _ (by_link a f holds) = depends_within feds a f holds
-leads_within feds _ _ (by_way_of a b f first rest) = leads_within feds a b first
-
--- so are all ancestors
-pub ancestor_within : (p : Federation) → IsFederation p → (a f : ℕ) → IsIn a (row_of p.ancestors f) → a < length p.federates
-ancestor_within p is a f among = leads_within p.federates a f ((is.closed.exact a f).0 among).1
 
 -- the ancestors from place i on hold all with whom a makes a pair
 pub record AreLeft (p : Federation) (a i : ℕ) (row : List ℕ) : Type 0 where

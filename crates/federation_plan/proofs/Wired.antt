@@ -15,8 +15,8 @@ use Rattle.message_filters.specs.declared.chain.Filtered.{Filtered}
 use Rattle.message_filters.specs.declared.chain.Filtered.TheVariants.{Kept, Dropped}
 use Rattle.helics_time.specs.Time.{longest_span}
 use Rattle.message_filters.specs.Limits.{most_filters}
-use Rattle.dependency_paths.specs.Paths.{row_of, Leads}
-use Rattle.dependency_paths.specs.Paths.Leads.{by_link, by_way_of}
+use Rattle.dependency_paths.specs.Paths.{row_of}
+use Rattle.dependency_paths.specs.Paths.Leads.{by_link}
 use Rattle.dependency_paths.proofs.Ancestry.{ancestor_laws}
 use Rattle.tree_facts.specs.Tree.{IsTree}
 use Rattle.tree_facts.proofs.Cuts.{hop_is}
@@ -35,7 +35,7 @@ use Rattle.federation_plan.specs.Laws.{IsLeg, IsSend, PlanLaws}
 use Rattle.federation_plan.proofs.Named.{federate_within}
 use Rattle.federation_plan.proofs.Places.{endpoints_known, publications_known}
 use Rattle.federation_plan.proofs.Accepted.{IsAccepted, accepted, both_none}
-use Rattle.federation_plan.proofs.Sent.{terms_at, source_short, destination_short, no_reroutes, Arrives, arrives, end_known, end_reached, message_depends, value_depends, target_known, depended_within}
+use Rattle.federation_plan.proofs.Sent.{terms_at, source_short, destination_short, no_reroutes, Arrives, arrives, end_known, end_reached, message_depends, value_depends, target_known, ancestor_within}
 use Rattle.federation_plan.proofs.Trees.{tree_is, core_known, hop_within}
 
 is_accepted : (p : Federation) → IsFederation p → IsAccepted p.federates
@@ -167,13 +167,8 @@ plans_are p is = record {
   others = λ f among. ((is.closed.exact f f).0 among).0 refl;
 }
 
--- a path begins at a federate
-path_within : (feds : List FederateRecord) (a f : ℕ) → Leads (depends feds) a f → a < length feds
-path_within feds _ _ (by_link a f linked) = depended_within feds a f linked
-path_within feds _ _ (by_way_of a b f first second) = path_within feds a b first
-
 within : (p : Federation) (f : ℕ) → IsFederation p → Each (λ a. a < length p.federates) (row_of p.ancestors f)
-within p f is a among = path_within p.federates a f ((is.closed.exact a f).0 among).1
+within p f is a among = ancestor_within p is a f among
 
 arrives_at : (p : Federation) (from to end : EndRef) (sequence delay : ℕ) → IsFederation p → IsEndpoint p.federates from → IsEndpoint p.federates to →
     may_send p.federates from to ≡ true → filtered_at p.federates from sequence to ≡ Kept end delay → (end.fed ≡ from.fed) ⊎ IsIn from.fed (row_of p.ancestors end.fed)

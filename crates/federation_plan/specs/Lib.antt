@@ -1,4 +1,4 @@
-pub mod Called
+pub mod Names
 pub mod Chains
 pub mod Depends
 pub mod Draft

@@ -1,15 +1,13 @@
-ghost use Rattle.std.specs.Prelude.{◌≡◌, ◌<◌, length, IfOk, IfSome};
+ghost use Rattle.std.specs.Prelude.{◌≡◌, ◌<◌, length, IfSome};
 ghost use Rattle.std.specs.Option.{option_copied};
-ghost use Rattle.federation_plan.specs.Interfaces.{IsEndpoint, IsPublication, end_name, endpoint_at, pub_name, publication_interface};
+ghost use Rattle.federation_plan.specs.Interfaces.{IsEndpoint, endpoint_at};
 ghost use Rattle.federation_plan.specs.Wires.{destined, endpoint_in, kind_objection, name_meant as name_meant_by, publication_in, send_objection, target_objection};
 
 use crate::plan::Plan;
 use crate::refusal::same_kind;
-use hel_lists::{OutOfMemory, Text};
 use hel_values::{EndRef, Value};
 use interface_names::{EndRecord, PubRecord};
 use machine_laws::CallRefusal;
-use std::alloc::Global;
 
 impl Plan {
     /// Why a federate doesn't publish a value: it has no such publication, or the value is of another

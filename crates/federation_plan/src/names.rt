@@ -4,7 +4,7 @@ ghost use Rattle.std.specs.Str.{bytes_eq};
 ghost use Rattle.std.specs.Option.{option_or};
 ghost use Rattle.interface_names.specs.Limits.{most_interfaces};
 ghost use Rattle.federation_plan.specs.Interfaces.{interfaces_in, interfaces_from, named, publication_of, endpoint_of, AreFew};
-ghost use Rattle.federation_plan.specs.Called.{known_as};
+ghost use Rattle.federation_plan.specs.Names.{known_as};
 
 use hel_lists::{OutOfMemory, Text};
 use hel_values::EndRef;

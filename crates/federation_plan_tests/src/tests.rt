@@ -26,7 +26,7 @@ use std::test::Fail;
 // and its interfaces. `p` and `p:t` are publications of numbers and of texts; `<A/p` and `<t:A/p` are
 // subscriptions to values of any kind and to texts, `!A/p` is a required one; `@e` is an endpoint,
 // `@e=B/e` one with a default destination, `@e>` and `@e>B/e` are targeted, `@e<B/e` is so with a source
-// target; `+A/e:4` is a filter on the side of the source, `-A/e:4` one on that of the destination: they
+// target; a `/` in front of the name of a publication or an endpoint makes it global; `+A/e:4` is a filter on the side of the source, `-A/e:4` one on that of the destination: they
 // delay, drop with a chance as in `*607535` and the seed 0, and reroute as in `>C/e`.
 
 fn text(alloc: Global, text: &str) -> Result<Text, Fail> {
@@ -53,8 +53,8 @@ fn kind_of(letter: &str) -> ValueKind {
 fn publication(alloc: Global, word: &str) -> Result<PubRecord, Fail> {
     let (name, letter) = word.split_once(':').unwrap_or((word, "i"));
     Ok(PubRecord {
-        name: text(alloc, name)?,
-        global: false,
+        name: text(alloc, name.strip_prefix('/').unwrap_or(name))?,
+        global: name.starts_with('/'),
         kind: kind_of(letter),
     })
 }
@@ -75,8 +75,8 @@ fn input(alloc: Global, word: &str, required: bool) -> Result<InputRecord, Fail>
 
 fn end_record(alloc: Global, name: &str, to: Option<&str>, from: &str) -> Result<EndRecord, Fail> {
     Ok(EndRecord {
-        name: text(alloc, name)?,
-        global: false,
+        name: text(alloc, name.strip_prefix('/').unwrap_or(name))?,
+        global: name.starts_with('/'),
         targeted: to.is_some(),
         default_destination: None,
         destination_targets: names(alloc, to.unwrap_or(""))?,

@@ -32,6 +32,7 @@ use Rattle.helics_run.specs.Printing.{Content, IsRunOf, IsTextOf, PrintsBy, Refu
 use Rattle.helics_run.specs.Command.{texts, HasVerb, Prints, Refuses, TellsAll, Stands}
 use Rattle.helics_run.specs.declared.failure.Failure.{Failure}
 use Rattle.helics_run.specs.declared.failure.Failure.TheVariants.{FileFault, Refused}
+use Rattle.scenario_reading.proofs.Orders.{ok_same, ok_not_err}
 use Rattle.helics_run.specs.Answers.{Answers, Tells}
 
 -- ---- what is read
@@ -58,12 +59,6 @@ reads_once {A} content (asks path next) one other tells first second =
     let same : second.0 ≡ first.0 = given_once (content path) second.0 first.0 (tells path (inl refl)) second.1.0 first.1.0 in
     let P : Given → Type 0 = λ g. Reads content (next g) other in
     reads_once content (next first.0) one other (λ p asked. tells p (inr (first.0, (first.1.0, asked)))) first.1.1 (subst P same second.1.1)
-
-ok_same : {A E : Type 0} (x y : A) → ◌≡◌ {A = Result A E} (Ok x) (Ok y) → x ≡ y
-ok_same x y e = cc
-
-ok_not_err : {A E : Type 0} (x : A) (y : E) → ◌≡◌ {A = Result A E} (Ok x) (Err y) → ⊥
-ok_not_err x y e = cc
 
 -- ---- what is asked for
 

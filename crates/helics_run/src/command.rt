@@ -92,14 +92,15 @@ pub fn command<F: Files, O: Sink, E: Sink>(
 
     // Nothing else is written to `out`, and what the files hold stays.
     ensures no_out { ¬ IsPrinting result → result ≢ Status.SinkFault → Gains (O.written out.old) (O.written out.new) [] }
-    ensures part_of_out { result ≡ Status.SinkFault → Gains (O.written out.old) (O.written out.new) []
+    ensures part_of_out { result ≡ Status.SinkFault →
+        (Gains (O.written out.old) (O.written out.new) [] × Rose (E.faults err.old) (E.faults err.new))
         ⊎ ((p : Printing) × (Prints (F.content files.old) (texts words.now.items) p
-        × (GainsPart (O.written out.old) (O.written out.new) p.out
+        × ((GainsPart (O.written out.old) (O.written out.new) p.out × Rose (O.faults out.old) (O.faults out.new))
         ⊎ (Gains (O.written out.old) (O.written out.new) p.out × Rose (E.faults err.old) (E.faults err.new))))) }
     // Where `err` failed, it gained a first part of one line, and not all of it.
     ensures part_of_err { E.faults err.old < E.faults err.new → (line : List ℕ)
         × MayTell (F.content files.old) (texts words.now.items) (Rose (O.faults out.old) (O.faults out.new))
-            (λ answer. CountsFaults answer (F.faults files.old) (F.faults files.new) (F.failed_path files.new)) line
+        (λ answer. CountsFaults answer (F.faults files.old) (F.faults files.new) (F.failed_path files.new)) line
         × GainsPart (E.written err.old) (E.written err.new) line }
     ensures same_files { (path : List ℕ) → F.content files.new path ≡ F.content files.old path }
 

@@ -1,11 +1,13 @@
 -- Lists that are read one item after another.
-use Rattle.std.proofs.Common.{◌≡◌, ℕ, zero, suc, ◌≤◌, arith, ◌+◌, ◌<◌, ◌⊎◌, inl, inr, refl, ap, sym, ◌∙◌, List, [], ◌∷◌, ◌++◌, length, drop, drop-cons, get_or, Ok, Err, append_assoc, add-one, decimal}
+use Rattle.std.proofs.Common.{◌≡◌, ℕ, zero, suc, ◌≤◌, arith, ◌+◌, ◌<◌, ◌⊎◌, inl, inr, refl, ap, sym, ◌∙◌, List, [], ◌∷◌, ◌++◌, length, drop, drop-cons, get_or, Ok, Err, append_assoc, decimal}
 use Rattle.std.proofs.lemmas.List.{append-nil}
 use Rattle.serde_json.specs.Data.{Data, Items, no_items, item}
 use Rattle.serde_json.specs.View.{view, items_view}
 use Rattle.serde_json.specs.declared.value.Value.{Value}
-use Rattle.json_reading.specs.Reading.{Read, ◌>>=◌, below, under, each_from, item_count, Stands}
+use Rattle.json_reading.specs.Reading.{Read, ◌>>=◌, below, under, each_from, Stands}
 use Rattle.json_reading.specs.declared.refusal.ConfigRefusal.{ConfigRefusal}
+use Rattle.serde_json.specs.Events.{items_len}
+use Rattle.serde_json.proofs.Views.{items_len-items_view}
 use Rattle.json_reading.specs.declared.refusal.ConfigCause.TheVariants.{OutOfMemory}
 
 -- a list that goes on behind what has been read
@@ -68,6 +70,5 @@ drop-all (suc i) [] h = refl
 drop-all (suc i) (v ∷ vs) h = drop-all i vs (omega arith)
 
 -- a list has as many items as its view
-pub counts : (vs : List Value) → item_count (items_view vs) ≡ length vs
-counts [] = refl
-counts (v ∷ vs) = ap (λ (n : ℕ). n + 1) (counts vs) ∙ add-one (length vs)
+pub counts : (vs : List Value) → items_len (items_view vs) ≡ length vs
+counts = items_len-items_view

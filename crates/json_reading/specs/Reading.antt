@@ -6,6 +6,7 @@ use Rattle.serde_json.specs.Find.{as_array}
 use Rattle.json_reading.specs.Keys.{Member, member_at, object_of, is_doubled}
 use Rattle.json_reading.specs.declared.refusal.ConfigCause.{ConfigCause}
 use Rattle.json_reading.specs.declared.refusal.ConfigCause.TheVariants.{NotAnObject, NotAList, OutOfRange, Missing, DoubledKey, OutOfMemory}
+use Rattle.serde_json.specs.Events.{items_len}
 use Rattle.json_reading.specs.declared.refusal.ConfigRefusal.{ConfigRefusal}
 
 -- what a value holds, or the first refusal
@@ -81,13 +82,9 @@ each_from read place (item value more) = do
   xs ← each_from read (place + 1) more
   Ok (x ∷ xs)
 
-abbrev pub item_count : Items → ℕ
-item_count no_items = 0
-item_count (item value more) = item_count more + 1
-
 -- a list of at most so many items
 abbrev pub few_items : ℕ → Option Items → Result Items ConfigCause
-few_items most list = ok_or list NotAList >>= λ items. if nat_lt most (item_count items) then Err OutOfRange else Ok items
+few_items most list = ok_or list NotAList >>= λ items. if nat_lt most (items_len items) then Err OutOfRange else Ok items
 
 -- a list, each item read so
 abbrev pub list_of : {A : Type 0} → (Data → Read A) → Data → Read (List A)

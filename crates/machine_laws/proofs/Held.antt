@@ -1,12 +1,11 @@
 -- What the logs hold.
-use Rattle.std.proofs.Common.{◌≡◌, inl, inr, ℕ, zero, suc, Bool, true, false, refl, sym, ◌∙◌, ap, List, [], ◌∷◌, ◌++◌, get_or}
+use Rattle.std.proofs.Common.{◌≡◌, ℕ, zero, suc, refl, sym, ◌∙◌, ap, List, [], ◌∷◌, ◌++◌, get_or}
 use Rattle.std.specs.Prelude.{map}
 use Rattle.std.specs.List.{filter}
 use Rattle.std.proofs.lemmas.Bool.{eq-eqb, ne_eqb}
 use Rattle.std.proofs.lemmas.List.{append-nil, append_assoc}
 use Rattle.std.proofs.lemmas.List.Elements.{filter-append}
 use Rattle.helics_time.specs.Settings.{Terms}
-use Rattle.hel_lists.specs.Members.{Each}
 use Rattle.hel_lists.proofs.Members.{in_filter}
 use Rattle.due_queue.specs.Item.{Parcel, is_to}
 use Rattle.machine_laws.specs.declared.logs.LogEntry.{LogEntry}
@@ -19,6 +18,7 @@ use Rattle.machine_laws.proofs.Calm.{calm_step}
 use Rattle.machine_laws.proofs.Handed.{handed_target}
 use Rattle.machine_laws.proofs.Keep.{keeps_step, keeps_opening}
 use Rattle.machine_laws.proofs.Members.{by_member}
+use Rattle.due_queue.proofs.Dues.{filter_none, filter_each}
 use Rattle.machine_laws.proofs.News.{sender_of}
 
 -- the items of a log with one more entry
@@ -26,20 +26,10 @@ items_push : (es : List LogEntry) (e : LogEntry) → logged_items (es ++ e ∷ [
 items_push [] e = append-nil e.items
 items_push (x ∷ es) e = ap (λ (l : List Parcel). x.items ++ l) (items_push es e) ∙ sym (append_assoc x.items (logged_items es) e.items)
 
--- a filter that passes all
-filter_all : (q : Parcel → Bool) (xs : List Parcel) → Each (λ (i : Parcel). q i ≡ true) xs → filter q xs ≡ xs
-filter_all q [] each = refl
-filter_all q (x ∷ xs) each = rw (each x (inl refl)) (ap (λ (l : List Parcel). x ∷ l) (filter_all q xs (λ i among. each i (inr among))))
-
--- a filter that passes none
-filter_none : (q : Parcel → Bool) (xs : List Parcel) → Each (λ (i : Parcel). q i ≡ false) xs → filter q xs ≡ []
-filter_none q [] each = refl
-filter_none q (x ∷ xs) each = rw (each x (inl refl)) (filter_none q xs (λ i among. each i (inr among)))
-
 -- what a grant of g hands over is all for g
 handed_to_it : (s : State) (f g : ℕ) → f ≡ g → filter (is_to f) (handed_in s g) ≡ handed_in s g
 handed_to_it s f g same =
-    filter_all (is_to f) (handed_in s g) (λ i among. eq-eqb i.target f (handed_target g (cut_in s g) i (in_filter (is_handed g (cut_in s g)) s.items i among).1 ∙ sym same))
+    filter_each (is_to f) (handed_in s g) (λ i among. eq-eqb i.target f (handed_target g (cut_in s g) i (in_filter (is_handed g (cut_in s g)) s.items i among).1 ∙ sym same))
 
 -- and nothing for another
 handed_to_others : (s : State) (f g : ℕ) → (f ≡ g → ⊥) → filter (is_to f) (handed_in s g) ≡ []

@@ -14,7 +14,7 @@ use Rattle.machine_laws.specs.Plan.{Plan, IsPlan}
 use Rattle.machine_laws.specs.Machine.{Member, State, Step, member_at, blank_member, end_refusal, if_refused, refusal_of, KeepsTime, IsLawful, after, IsRun}
 use Rattle.machine_laws.specs.Machine.Step.{grant}
 use Rattle.machine_laws.specs.Laws.{Keeps}
-use Rattle.machine_laws.specs.Moves.{Doing, step_by, Scripts, Play, calls_of, doing_refusal, or_failure, call_by, in_turn, if_lawful, next_step, is_call, moved, move, KeepsTimes, Diamond, steps_of_moves, MovesRun}
+use Rattle.machine_laws.specs.Moves.{Doing, step_by, Scripts, Play, calls_of, doing_refusal, or_failure, call_by, in_turn, if_lawful, next_step, is_call, moved, move, KeepsTimes, Diamond, steps_of_moves, MovesRun, is_calling}
 use Rattle.machine_laws.specs.Moves.Doing.{enters, makes, requests, finishes, fails}
 use Rattle.machine_laws.proofs.Accepted.{known_is}
 use Rattle.machine_laws.proofs.CallGrant.{call_grant}
@@ -22,12 +22,6 @@ use Rattle.machine_laws.proofs.Calls.{Calls, Commutes, call_call, flip, calls_en
 use Rattle.machine_laws.proofs.GrantsCommute.{grant_grant}
 use Rattle.machine_laws.proofs.Keep.{keeps_step}
 use Rattle.machine_laws.proofs.Members.{other_member}
-
--- a federate in this phase calls
-abbrev is_calling : Phase → Bool
-is_calling Initializing = true
-is_calling Running = true
-is_calling phase = false
 
 -- a federate that does something calls, or asks for a grant
 cases_phase : (q : Phase) (call grants : Option Step) (step : Step) → in_turn q call grants ≡ Some step →
@@ -39,19 +33,19 @@ cases_phase Waiting call grants step e = inr (refl, e)
 cases_phase phase call grants step e = cc
 
 -- so one in a phase of calls takes its call
-phase_calls : (q : Phase) (call grants : Option Step) → is_calling q ≡ true → in_turn q call grants ≡ call
+pub phase_calls : (q : Phase) (call grants : Option Step) → is_calling q ≡ true → in_turn q call grants ≡ call
 phase_calls Initializing call grants e = refl
 phase_calls Running call grants e = refl
 phase_calls phase call grants e = absurd (false≢true e)
 
 -- and one that asks takes its grant
-phase_asks : (q : Phase) (call grants : Option Step) → is_asking q ≡ true → in_turn q call grants ≡ grants
+pub phase_asks : (q : Phase) (call grants : Option Step) → is_asking q ≡ true → in_turn q call grants ≡ grants
 phase_asks Entering call grants e = refl
 phase_asks Waiting call grants e = refl
 phase_asks phase call grants e = absurd (false≢true e)
 
 -- a federate that calls lives
-calling_lives : (q : Phase) → is_calling q ≡ true → end_refusal q ≡ None
+pub calling_lives : (q : Phase) → is_calling q ≡ true → end_refusal q ≡ None
 calling_lives (Ended c) e = absurd (false≢true e)
 calling_lives phase e = refl
 
@@ -64,7 +58,7 @@ lawful_same None x y e = (refl, sym (some_same e))
 lawful_same (Some z) x y e = cc
 
 -- and is the plan's
-calling_known : (s : State) (f : ℕ) → is_calling (member_at s f).time.phase ≡ true → f < length s.members
+pub calling_known : (s : State) (f : ℕ) → is_calling (member_at s f).time.phase ≡ true → f < length s.members
 calling_known s f calling = elim (cases_lt f (length s.members)) [
   | inl within ↦ within
   | inr past ↦ absurd (false≢true (sym (ap (λ (m : Member). is_calling m.time.phase) (get_or_past s.members f blank_member past)) ∙ calling))

@@ -62,6 +62,12 @@ or_failure f step (Some refusal) = fail f (refusal_word refusal)
 abbrev pub call_by : Plan → ℕ → Member → Doing → Step
 call_by p f m doing = or_failure f (step_by f doing) (doing_refusal p f m doing)
 
+-- a federate in this phase calls
+abbrev pub is_calling : Phase → Bool
+is_calling Initializing = true
+is_calling Running = true
+is_calling phase = false
+
 -- what a federate in this phase does: its call, or the grant that it waits for, or nothing
 abbrev pub in_turn : Phase → Option Step → Option Step → Option Step
 in_turn Initializing call grants = call

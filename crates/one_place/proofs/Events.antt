@@ -10,12 +10,11 @@ use Rattle.helics_time.specs.Stamp.{At, IsDue, at_most, next_of, rank}
 use Rattle.helics_time.proofs.Ranks.{most_of}
 use Rattle.due_queue.specs.Item.{Parcel}
 use Rattle.due_queue.specs.Queue.{first_due}
-use Rattle.time_state.specs.Fed.{Fed, IsFed, IsStep, IsEvent, created, event_of, granted, ended, is_asking, is_live}
+use Rattle.time_state.specs.Fed.{Fed, IsFed, IsStep, IsEvent, event_of, granted, ended, is_asking, is_live}
 use Rattle.time_state.specs.declared.Cause.{Cause}
 use Rattle.time_state.proofs.Least.{least_decides}
-use Rattle.time_state.proofs.Turns.{opening_stands, end_stands}
+use Rattle.time_state.proofs.Turns.{end_stands}
 use Rattle.time_state.proofs.Grants.{grant_stands, grant_steps}
-use Rattle.helics_time.specs.Settings.{Terms, IsTerms}
 use Rattle.machine_laws.specs.Machine.{limit_refusal}
 use Rattle.one_place.specs.Members.{dues_of, sender_of}
 
@@ -71,10 +70,6 @@ own_due f fed low small =
     let bounds = cut_bounds f.last f.last_cut cut.micro small fed.cut_low high in
     let next = next_by f.last_cut (omega (arith, bounds.1)) in
     subst IsDue (sym next) (record { time = omega (arith, bounds.0); micro = omega (arith, bounds.1) })
-
--- a new federate
-pub new_fed : (terms : Terms) → IsTerms terms → IsFed (created terms)
-new_fed terms is = opening_stands terms is
 
 -- a federate that may send is below the limits
 pub sends_low : (f : Fed) (seq : ℕ) → IsFed f → limit_refusal (sender_of f seq) ≡ None → f.last.time < horizon

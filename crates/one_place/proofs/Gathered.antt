@@ -15,6 +15,8 @@ use Rattle.machine_laws.specs.Machine.{is_handed, is_left}
 use Rattle.federation_plan.proofs.Lists.{in_append}
 use Rattle.one_place.specs.declared.seat.Clock.{Clock}
 use Rattle.interface_names.specs.declared.records.FederateRecord.{FederateRecord}
+use Rattle.due_queue.proofs.Dues.{filter_none, filter_each}
+use Rattle.machine_laws.proofs.Handed.{not_theirs}
 use Rattle.one_place.specs.Members.{AreQueued, new_clocks, clock_at, gathered}
 
 -- an item to a lesser federate comes before one to a greater
@@ -99,14 +101,6 @@ filter_joined p (x ∷ xs) ys = elim (cases_Bool (p x)) [
   | inr fails ↦ rw fails (filter_joined p xs ys)
 ]
 
-pub filter_nothing : (p : Parcel → Bool) (xs : List Parcel) → Each (λ x. p x ≡ false) xs → filter p xs ≡ []
-filter_nothing p [] none = refl
-filter_nothing p (x ∷ xs) none = rw (none x (inl refl)) (filter_nothing p xs (λ y among. none y (inr among)))
-
-pub filter_all : (p : Parcel → Bool) (xs : List Parcel) → Each (λ x. p x ≡ true) xs → filter p xs ≡ xs
-filter_all p [] all = refl
-filter_all p (x ∷ xs) all = rw (all x (inl refl)) (ap (λ (l : List Parcel). x ∷ l) (filter_all p xs (λ y among. all y (inr among))))
-
 -- two filters that agree on a list
 filter_alike : (p q : Parcel → Bool) (xs : List Parcel) → Each (λ x. p x ≡ q x) xs → filter p xs ≡ filter q xs
 filter_alike p q [] alike = refl
@@ -125,29 +119,26 @@ filter_from b t f p [] is queued only = refl
 filter_from b zero f p (x ∷ cs) is queued only =
     filter_joined p x.queue (gathered cs)
     ∙ ap (λ (l : List Parcel). filter p x.queue ++ l)
-    (filter_nothing p (gathered cs) (λ j among. only j (λ same. let from = gathered_from (suc b) cs j queued.1 among in absurd (omega (arith, from, same)))))
+    (filter_none p (gathered cs) (λ j among. only j (λ same. let from = gathered_from (suc b) cs j queued.1 among in absurd (omega (arith, from, same)))))
     ∙ append-nil (filter p x.queue)
 filter_from b (suc t) f p (x ∷ cs) is queued only =
     filter_joined p x.queue (gathered cs)
-    ∙ ap (λ (l : List Parcel). l ++ filter p (gathered cs)) (filter_nothing p x.queue (λ j among. only j (λ same. let own : j.target ≡ b = queued.0 j among in absurd (omega (arith, own, same)))))
+    ∙ ap (λ (l : List Parcel). l ++ filter p (gathered cs)) (filter_none p x.queue (λ j among. only j (λ same. let own : j.target ≡ b = queued.0 j among in absurd (omega (arith, own, same)))))
     ∙ filter_from (suc b) t f p cs (omega arith) queued.1 only
 
 -- the items to a federate are its queue
 pub queue_is : (t : ℕ) (cs : List Clock) → AreQueued 0 cs → filter (is_to t) (gathered cs) ≡ (clock_at cs t).queue
 queue_is t cs queued =
     filter_from 0 t t (is_to t) cs (omega arith) queued (λ i other. ne_eqb i.target t other)
-    ∙ filter_all (is_to t) (clock_at cs t).queue (λ i among. eq-eqb i.target t (own_queue t cs queued i among))
+    ∙ filter_each (is_to t) (clock_at cs t).queue (λ i among. eq-eqb i.target t (own_queue t cs queued i among))
 
 handed_own : (f : ℕ) (cut : At) (i : Parcel) → i.target ≡ f → is_handed f cut i ≡ is_due cut i
 handed_own f cut i own = rw (eq-eqb i.target f own) refl
 
-handed_other : (f : ℕ) (cut : At) (i : Parcel) → i.target ≢ f → is_handed f cut i ≡ false
-handed_other f cut i other = rw (ne_eqb i.target f other) refl
-
 -- what a cut hands over to it are the due ones of its queue
 pub handed_is : (t : ℕ) (cut : At) (cs : List Clock) → AreQueued 0 cs → filter (is_handed t cut) (gathered cs) ≡ filter (is_due cut) (clock_at cs t).queue
 handed_is t cut cs queued =
-    filter_from 0 t t (is_handed t cut) cs (omega arith) queued (λ i other. handed_other t cut i other)
+    filter_from 0 t t (is_handed t cut) cs (omega arith) queued (λ i other. not_theirs t cut i other)
     ∙ filter_alike (is_handed t cut) (is_due cut) (clock_at cs t).queue (λ i among. handed_own t cut i (own_queue t cs queued i among))
 
 -- and what it leaves is everything where its queue is left with the others
@@ -157,11 +148,11 @@ unfolding gathered
 left_from b t f cut [] c is queued within left = absurd (omega arith)
 left_from b zero f cut (x ∷ cs) c is queued within left =
     let own = filter_alike (is_left f cut) (λ (i : Parcel). not (is_due cut i)) x.queue (λ i among. ap not (handed_own f cut i (queued.0 i among ∙ omega arith))) in
-    let rest = filter_all (is_left f cut) (gathered cs) (λ i among. let from = gathered_from (suc b) cs i queued.1 among in ap not (handed_other f cut i (λ same. absurd (omega (arith, from, same))))) in
+    let rest = filter_each (is_left f cut) (gathered cs) (λ i among. let from = gathered_from (suc b) cs i queued.1 among in ap not (not_theirs f cut i (λ same. absurd (omega (arith, from, same))))) in
     ap (λ (l : List Parcel). l ++ gathered cs) (left ∙ sym own) ∙ ap (λ (l : List Parcel). filter (is_left f cut) x.queue ++ l) (sym rest)
     ∙ sym (filter_joined (is_left f cut) x.queue (gathered cs))
 left_from b (suc t) f cut (x ∷ cs) c is queued within left =
-    let here = filter_all (is_left f cut) x.queue (λ i among. let own : i.target ≡ b = queued.0 i among in ap not (handed_other f cut i (λ same. absurd (omega (arith, own, same))))) in
+    let here = filter_each (is_left f cut) x.queue (λ i among. let own : i.target ≡ b = queued.0 i among in ap not (not_theirs f cut i (λ same. absurd (omega (arith, own, same))))) in
     ap (λ (l : List Parcel). x.queue ++ l) (left_from (suc b) t f cut cs c (omega arith) queued.1 (omega arith) left)
     ∙ ap (λ (l : List Parcel). l ++ filter (is_left f cut) (gathered cs)) (sym here)
     ∙ sym (filter_joined (is_left f cut) x.queue (gathered cs))

@@ -17,10 +17,11 @@ use Rattle.machine_laws.specs.Machine.{Member, State, blank_member, member_at, l
 use Rattle.one_place.specs.declared.seat.Clock.{Clock}
 use Rattle.one_place.specs.Members.{member_of, IsClock, AreSeats, AreClocks, AreQueued, AreKept, AreMade, joined, gathered, state_of, blank_clock, clock_at, log_at, with_queue, taken_back, called_at, put_in, put_all}
 use Rattle.federation_plan.proofs.Lists.{append_left, append_right}
-use Rattle.one_place.proofs.Gathered.{gathered_put, gathered_same, queued_set, own_queue, filter_all}
+use Rattle.one_place.proofs.Gathered.{gathered_put, gathered_same, queued_set, own_queue}
 use Rattle.one_place.proofs.Events.{sends_few}
-use Rattle.one_place.proofs.Puts.{clock_in, put_length}
-use Rattle.one_place.proofs.Seats.{clocks_of, joined_length, member_is}
+use Rattle.one_place.proofs.Puts.{clock_in, put_length, clocks_set}
+use Rattle.due_queue.proofs.Dues.{filter_each}
+use Rattle.one_place.proofs.Seats.{clocks_of, joined_length, member_is, seq_stays}
 
 -- each log ends as its federate stands
 AreEnds : List Clock → List FedLog → Type 0
@@ -59,13 +60,6 @@ joined_same (x ∷ cs) [] (suc t) c time seq = refl
 joined_same (x ∷ cs) (l ∷ ls) zero c time seq = λ k. record { time = time k; seq = seq k; log = l.entries; text = (member_of x l).text } ∷ joined cs ls
 joined_same (x ∷ cs) (l ∷ ls) (suc t) c time seq = ap (λ (ms : List Member). member_of x l ∷ ms) (joined_same cs ls t c time seq)
 
-seq_same : (cs : List Clock) (t : ℕ) (c : Clock) (k : ℕ) → c.seq ≡ (clock_at cs t).seq → (clock_at (slice_set cs t c) k).seq ≡ (clock_at cs k).seq
-seq_same [] t c k same = refl
-seq_same (x ∷ cs) zero c zero same = same
-seq_same (x ∷ cs) zero c (suc k) same = refl
-seq_same (x ∷ cs) (suc t) c zero same = refl
-seq_same (x ∷ cs) (suc t) c (suc k) same = seq_same cs t c k same
-
 -- what puts leave as it was, and what they do to the list of all items
 record IsPut (cs : List Clock) (ls : List FedLog) (ds : List Clock) (items : List Parcel) : Type 0 where
   pub count : length ds ≡ length cs
@@ -93,7 +87,7 @@ all_put (i ∷ items) cs ls ends queued within =
       ends = more.ends;
       queued = more.queued;
       gathered = more.gathered ∙ ap (insert_all items) (gathered_put i.target cs _ i queued (within i (inl refl)) refl refl);
-      seqs = λ k. more.seqs k ∙ seq_same cs i.target _ k refl;
+      seqs = λ k. more.seqs k ∙ seq_stays cs i.target _ k refl;
     }
 
 -- a member is its clock with its log
@@ -112,11 +106,6 @@ seq_rises (x ∷ cs) zero c (suc k) n rises less = less
 seq_rises (x ∷ cs) (suc t) c zero n rises less = less
 seq_rises (x ∷ cs) (suc t) c (suc k) n rises less = seq_rises cs t c k n rises less
 
-clocks_at : (cs : List Clock) (t : ℕ) (c : Clock) → AreClocks cs → IsClock c → AreClocks (slice_set cs t c)
-clocks_at [] t c clocks is = tt
-clocks_at (x ∷ cs) zero c clocks is = (is, clocks.1)
-clocks_at (x ∷ cs) (suc t) c clocks is = (clocks.0, clocks_at cs t c clocks.1 is)
-
 joined_clock : (cs : List Clock) (ls : List FedLog) (t : ℕ) (c : Clock) → joined (slice_set cs t c) ls ≡ slice_set (joined cs ls) t (member_of c (log_at ls t))
 unfolding joined
 joined_clock [] ls t c = refl
@@ -131,12 +120,12 @@ called_clock c is = record { fed = is.fed; dues = is.dues; event = is.event }
 
 pub called_clocks : (f : ℕ) (cs : List Clock) (d : Clock) → AreClocks cs → f < length cs →
     AreClocks (slice_set cs f (record (slice_index_or cs f d) { seq = (slice_index_or cs f d).seq + 1 }))
-called_clocks f cs d are within = clocks_at cs f _ are (called_clock (slice_index_or cs f d) (clock_in cs f d are within))
+called_clocks f cs d are within = clocks_set cs f _ are (called_clock (slice_index_or cs f d) (clock_in cs f d are within))
 
 -- puts leave a federate's number
 put_seq : (items : List Parcel) (cs : List Clock) (k : ℕ) → (clock_at (put_all items cs) k).seq ≡ (clock_at cs k).seq
 put_seq [] cs k = refl
-put_seq (i ∷ items) cs k = put_seq items (put_in i cs) k ∙ seq_same cs i.target _ k refl
+put_seq (i ∷ items) cs k = put_seq items (put_in i cs) k ∙ seq_stays cs i.target _ k refl
 
 pub put_number : (items : List Parcel) (cs ds : List Clock) (f : ℕ) (d : Clock) → ds ≡ put_all items cs → f < length ds → (slice_index_or ds f d).seq ≡ (clock_at cs f).seq
 put_number items cs ds f d is within =
@@ -144,7 +133,7 @@ put_number items cs ds f d is within =
 
 -- no item of a federate's next call stands in a queue
 none_made : (cs : List Clock) (f : ℕ) (items : List Parcel) → Each (λ i. i.seq < (clock_at cs i.source).seq) items → filter (is_made_otherwise f (clock_at cs f).seq) items ≡ items
-none_made cs f items numbered = filter_all (is_made_otherwise f (clock_at cs f).seq) items (λ i among.
+none_made cs f items numbered = filter_each (is_made_otherwise f (clock_at cs f).seq) items (λ i among.
     elim (cases_Bool (is_made_by f (clock_at cs f).seq i)) [
       | inl made ↦
           let both = split (i.source == f) (i.seq == (clock_at cs f).seq) made in

@@ -2,7 +2,7 @@
 use Rattle.std.proofs.Common.{◌≡◌, ◌<◌, ◌≤◌, ◌+◌, ℕ, zero, sym, Bool, true, false, List, [], ◌∷◌, length, Option, Some, None, refl, ap, ◌∙◌, arith, inl, inr, subst}
 use Rattle.std.specs.Prelude.{nat_lt, if◌then◌else◌, ◌||◌, option_map, is_some, is_none, unwrap_or, slice_get, drop, Result, Ok, Err}
 use Rattle.std.specs.Result.{IfOk}
-use Rattle.std.proofs.lemmas.Bool.{cases_Bool, cases_lt, false≢true, true≢false}
+use Rattle.std.proofs.lemmas.Bool.{cases_Bool, false≢true, true≢false}
 use Rattle.std.proofs.lemmas.Bool.Decides.{nat_tests}
 use Rattle.std.proofs.lemmas.List.{get_or_past}
 use Rattle.hel_values.specs.Limits.{data_limit}
@@ -15,7 +15,7 @@ use Rattle.endpoint_messages.specs.declared.Letter.{Letter}
 use Rattle.fed_script.specs.View.{Sight, letters_at}
 use Rattle.fed_script.specs.Script.{Course, IsInitial, IsCourse, HasTime, gives, echo_of, given_from, first_action, next_action, behind, behind_first, is_echo, echo_first, answers, words_after, seen_after, view_after}
 use Rattle.fed_script.specs.Laws.{letters_left}
-use Rattle.fed_script.proofs.Passing.{keep_times_after}
+use Rattle.fed_script.proofs.Passing.{keep_times_after, is_initial_after}
 use Rattle.fed_script.proofs.Turns.{progresses}
 use Rattle.machine_laws.specs.declared.refusal.CallRefusal.{CallRefusal}
 use Rattle.machine_laws.specs.declared.refusal.CallRefusal.TheVariants.{Ended, WrongPhase, NotOwner, KindMismatch, UnknownEndpoint, NotATarget, PastHorizon, MicroLimit, CountLimit, OutOfMemory}
@@ -23,15 +23,16 @@ use Rattle.machine_laws.specs.declared.refusal.Unlawful.TheVariants.{Refused, St
 use Rattle.machine_laws.specs.declared.refusal.Unlawful.{Unlawful}
 use Rattle.machine_laws.specs.Plan.{Plan}
 use Rattle.machine_laws.specs.Refusal.{refusal_word}
-use Rattle.machine_laws.specs.Machine.{State, blank_member, member_at, end_refusal, grant_refusal, refusal_of}
+use Rattle.machine_laws.specs.Machine.{State, blank_member, member_at, grant_refusal, refusal_of}
 use Rattle.machine_laws.specs.Machine.Step.{fail, grant}
-use Rattle.machine_laws.specs.Moves.{Doing, step_by, doing_refusal}
+use Rattle.machine_laws.specs.Moves.{Doing, step_by, doing_refusal, is_calling}
 use Rattle.machine_laws.specs.Moves.Doing.{enters, makes, requests, finishes, fails}
 use Rattle.time_state.specs.declared.Phase.{Phase}
 use Rattle.time_state.specs.declared.Phase.TheVariants.{Created, Initializing, Entering, Running, Waiting, Ended as PhaseEnded}
 use Rattle.one_place.specs.Reference.{doing_of, call_of}
 use Rattle.one_place.specs.Machine.{Stage}
-use Rattle.one_place.specs.Run.{wires_at, may_move, is_calling}
+use Rattle.machine_laws.proofs.Moves.{calling_known, calling_lives}
+use Rattle.one_place.specs.Run.{wires_at, may_move}
 
 -- the name of a refusal is short enough for a text value
 pub word_is_short : (r : CallRefusal) → length (refusal_word r) ≤ data_limit
@@ -53,13 +54,6 @@ strange_stays s f over =
     let none : nat_lt f (length s.state.members) ≡ false = grind (arith, nat_tests) in
     let refused : refusal_of (wires_at s) s.state (grant f) ≡ Some StrangeNumber = ap (λ (known : Bool). if known then grant_refusal (wires_at s) s.state f else Some StrangeNumber) none in
     (λ i. calls i || is_none (refused i))
-
--- a federate that calls is one of the machine's
-pub calling_known : (s : State) (f : ℕ) → is_calling (member_at s f).time.phase ≡ true → f < length s.members
-calling_known s f calls = elim (cases_lt f (length s.members)) [
-  | inl within ↦ within
-  | inr over ↦ let none = rw (get_or_past s.members f blank_member over) at calls in cc
-]
 
 -- a call of a federate of the machine is refused as the script's definition has it
 pub call_refused : (p : Plan) (s : State) (f : ℕ) (doing : Doing) → f < length s.members →
@@ -90,15 +84,7 @@ refused_with (Some x) e is = cc
 pub may_fail : (p : Plan) (s : State) (f : ℕ) (text : List ℕ) → is_calling (member_at s f).time.phase ≡ true → refusal_of p s (fail f text) ≡ None
 may_fail p s f text calling =
     let known = calling_known s f calling in
-    call_refused p s f (fails text) known ∙ ap (option_map Refused) (lives (member_at s f).time.phase calling)
-  where
-    lives : (q : Phase) → is_calling q ≡ true → end_refusal q ≡ None
-    lives Created calls = refl
-    lives Initializing calls = refl
-    lives Entering calls = refl
-    lives Running calls = refl
-    lives Waiting calls = refl
-    lives (PhaseEnded cause) calls = absurd (false≢true calls)
+    call_refused p s f (fails text) known ∙ ap (option_map Refused) (calling_lives (member_at s f).time.phase calling)
 
 -- what holds of a value that comes holds where it implies another fact
 pub if_ok_then : {T E : Type 0} (r : Result T E) (P Q : T → Type 0) → ((t : T) → P t → Q t) → IfOk r P → IfOk r Q
@@ -133,17 +119,9 @@ initial_time (Requests time mode ∷ more) action is at = absurd is
 initial_time (Finishes ∷ more) action is at = absurd is
 initial_time (Fails text ∷ more) action is at = absurd is
 
-initial_rest : (initial : List Action) → IsInitial initial → IsInitial (drop 1 initial)
-initial_rest [] is = tt
-initial_rest (Publishes publication value ∷ more) is = is
-initial_rest (Sends endpoint destination payload ∷ more) is = is
-initial_rest (Requests time mode ∷ more) is = absurd is
-initial_rest (Finishes ∷ more) is = absurd is
-initial_rest (Fails text ∷ more) is = absurd is
-
 -- a script keeps its rules as it goes on
 pub initial_passed : (c : Course) → IsCourse c → IsCourse (record c { initial = drop 1 c.initial })
-initial_passed c is = record { initial = initial_rest c.initial is.initial; times = is.times }
+initial_passed c is = record { initial = is_initial_after c.initial is.initial; times = is.times }
 
 pub words_passed : (c : Course) (v : Sight) → IsCourse c → IsCourse (record c { words = words_after c.words v })
 words_passed c v is = record { initial = is.initial; times = keep_times_after c.words v is.times }

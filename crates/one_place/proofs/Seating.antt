@@ -49,7 +49,7 @@ live_text m live = by_phase m.time.phase refl
     by_phase Waiting is = rw is refl
     by_phase (Ended cause) is = let no = rw is at live in absurd (false≢true no)
 
-asking_lives : (q : Phase) → is_asking q ≡ true → is_live q ≡ true
+pub asking_lives : (q : Phase) → is_asking q ≡ true → is_live q ≡ true
 asking_lives Created asks = refl
 asking_lives Initializing asks = refl
 asking_lives Entering asks = refl

@@ -20,7 +20,7 @@ use Rattle.federation_plan.specs.Plan.{IsKept}
 use Rattle.machine_laws.specs.Machine.{Member, State, new_member, blank_member, member_at, event_in, cut_in, dues_to, is_handed, is_left, handed_in, left_in, with_member, begun_member, granted_member, halted_if, log_of}
 use Rattle.one_place.specs.declared.seat.Clock.{Clock}
 use Rattle.one_place.specs.Members.{member_of, dues_of, IsSeat, IsSeatOf, IsClockOf, AreSeats, AreClocks, AreKept, joined, gathered, state_of, blank_clock, blank_log, clock_at, log_at, new_clock, new_clocks}
-use Rattle.one_place.proofs.Events.{new_fed}
+use Rattle.time_state.proofs.Turns.{opening_stands}
 use Rattle.one_place.proofs.Mapped.{map_next}
 use Rattle.one_place.proofs.Gathered.{queued_set, own_queue, queue_is, handed_is, left_is, gathered_same, none_gathered, none_queued}
 
@@ -88,7 +88,7 @@ logs_joined (c ∷ cs) (l ∷ ls) seats = λ i. record { entries = l.entries; en
 
 -- federates at the beginning
 new_seat : (terms : Terms) → IsTerms terms → IsSeat (new_clock terms) blank_log
-new_seat terms is = record { clock = record { fed = new_fed terms is; dues = λ i none. absurd none; event = refl }; ends = refl }
+new_seat terms is = record { clock = record { fed = opening_stands terms is; dues = λ i none. absurd none; event = refl }; ends = refl }
 
 pub new_seats : (feds : List FederateRecord) → Each IsKept feds → AreSeats (new_clocks feds) (replicate (length feds) blank_log)
 new_seats [] kept = tt
@@ -163,7 +163,7 @@ pub strange_cut : (s : State) (f : ℕ) → length s.members ≤ f → zero_stam
 strange_cut s f over = ap (λ (m : Member). cut_of m.time (dues_to s.items f)) (sym (get_or_past s.members f blank_member over))
 
 -- a clock with the same number leaves all numbers
-seq_stays : (cs : List Clock) (i : ℕ) (c : Clock) (k : ℕ) → c.seq ≡ (clock_at cs i).seq → (clock_at (slice_set cs i c) k).seq ≡ (clock_at cs k).seq
+pub seq_stays : (cs : List Clock) (i : ℕ) (c : Clock) (k : ℕ) → c.seq ≡ (clock_at cs i).seq → (clock_at (slice_set cs i c) k).seq ≡ (clock_at cs k).seq
 seq_stays [] i c k same = refl
 seq_stays (x ∷ cs) zero c zero same = same
 seq_stays (x ∷ cs) zero c (suc k) same = refl

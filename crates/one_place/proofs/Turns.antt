@@ -15,17 +15,19 @@ use Rattle.machine_laws.specs.declared.refusal.Unlawful.TheVariants.{NotAsked, S
 use Rattle.machine_laws.specs.Plan.{Plan}
 use Rattle.machine_laws.specs.Machine.{State, Member, Step, blank_member, member_at, cut_in, holder_in, dues_to, handed_in, granted_member, refusal_of, after}
 use Rattle.machine_laws.specs.Machine.Step.{grant}
-use Rattle.machine_laws.specs.Moves.{Doing, Scripts, Play, step_by, or_failure, doing_refusal, call_by, calls_of, in_turn, if_lawful, is_call, moved, move, IsReference}
+use Rattle.machine_laws.specs.Moves.{Doing, Scripts, Play, step_by, or_failure, doing_refusal, call_by, calls_of, in_turn, if_lawful, is_call, moved, move, IsReference, is_calling}
 use Rattle.machine_laws.specs.Moves.Doing.{enters, makes, requests, finishes, fails}
 use Rattle.one_place.specs.declared.actor.Actor.{Actor}
 use Rattle.federation_plan.specs.Plan.{Federation}
 use Rattle.federation_plan.specs.Wires.{wires_of}
 use Rattle.one_place.specs.Machine.{Stage}
 use Rattle.one_place.specs.Reference.{Way, names_in, taken_over}
-use Rattle.one_place.specs.Run.{wires_at, names_at, play_of, may_move, is_calling, going, passed, calling_step, entry_in, step_at, actor_after, IsActor, AreActors, Goes, actor_at, AreFollowing, IsNextToMove, Played, Leads}
+use Rattle.one_place.specs.Run.{wires_at, names_at, play_of, may_move, going, passed, calling_step, entry_in, step_at, actor_after, IsActor, AreActors, Goes, actor_at, AreFollowing, IsNextToMove, Played, Leads}
 use Rattle.one_place.specs.Work.{weight, work, letters, is_answering}
 use Rattle.one_place.proofs.Held.{each_at}
-use Rattle.one_place.proofs.Scripts.{calling_known, strange_stays, initial_passed, words_passed}
+use Rattle.one_place.proofs.Scripts.{strange_stays, initial_passed, words_passed}
+use Rattle.machine_laws.proofs.Moves.{phase_calls, phase_asks, calling_known}
+use Rattle.one_place.proofs.Seating.{asking_lives}
 use Rattle.one_place.proofs.Work.{Called, work_falls, work_stays, letters_fall, answered_letter, next_called}
 
 -- a call or a failure counts as a call
@@ -40,22 +42,6 @@ counts p f m doing = answered doing (doing_refusal p f m doing)
     answered finishes None = refl
     answered (fails text) None = refl
 
-calls_then : (q : Phase) (call grants : Option Step) → is_calling q ≡ true → in_turn q call grants ≡ call
-calls_then Initializing call grants calling = refl
-calls_then Running call grants calling = refl
-calls_then Created call grants calling = absurd (false≢true calling)
-calls_then Entering call grants calling = absurd (false≢true calling)
-calls_then Waiting call grants calling = absurd (false≢true calling)
-calls_then (Ended cause) call grants calling = absurd (false≢true calling)
-
-asks_then : (q : Phase) (call grants : Option Step) → is_asking q ≡ true → in_turn q call grants ≡ grants
-asks_then Entering call grants asking = refl
-asks_then Waiting call grants asking = refl
-asks_then Created call grants asking = absurd (false≢true asking)
-asks_then Initializing call grants asking = absurd (false≢true asking)
-asks_then Running call grants asking = absurd (false≢true asking)
-asks_then (Ended cause) call grants asking = absurd (false≢true asking)
-
 -- which phases call, wait or live
 calling_lives : (q : Phase) → is_calling q ≡ true → is_live q ≡ true
 calling_lives Created calling = refl
@@ -64,14 +50,6 @@ calling_lives Entering calling = refl
 calling_lives Running calling = refl
 calling_lives Waiting calling = refl
 calling_lives (Ended cause) calling = absurd (false≢true calling)
-
-asking_lives : (q : Phase) → is_asking q ≡ true → is_live q ≡ true
-asking_lives Created asking = refl
-asking_lives Initializing asking = refl
-asking_lives Entering asking = refl
-asking_lives Running asking = refl
-asking_lives Waiting asking = refl
-asking_lives (Ended cause) asking = absurd (false≢true asking)
 
 asking_calls_not : (q : Phase) → is_asking q ≡ true → is_calling q ≡ false
 asking_calls_not Created asking = absurd (false≢true asking)
@@ -105,7 +83,7 @@ call_moves s plays cs f a go calling =
     let t : State = after p s.state (call_by p f m doing) in
     ap (λ (d : Doing). option_map (moved p w f) (in_turn m.time.phase (Some (call_by p f m d)) grants))
     (doing_now (names_at s) plays f m (slice_index_or cs f 0) a go (calling_lives m.time.phase calling))
-    ∙ ap (λ (step : Option Step). option_map (moved p w f) step) (calls_then m.time.phase (Some (call_by p f m doing)) grants calling)
+    ∙ ap (λ (step : Option Step). option_map (moved p w f) step) (phase_calls m.time.phase (Some (call_by p f m doing)) grants calling)
     ∙ ap (λ (b : Bool). let next : Play = record { state = t; calls = if b then slice_set cs f (calls_of w f + 1) else cs } in Some next) (counts p f m doing)
 
 -- a federate that waits moves by its grant, where that is lawful
@@ -117,7 +95,7 @@ grant_moves s plays cs f asking lawful =
     let m : Member = member_at s.state f in
     let call : Step = call_by p f m (plays f (slice_index_or cs f 0) m.log) in
     ap (λ (step : Option Step). option_map (moved p w f) step)
-    (asks_then m.time.phase (Some call) (if_lawful (refusal_of p s.state (grant f)) (grant f)) asking ∙ ap (λ (r : Option Unlawful). if_lawful r (grant f)) lawful)
+    (phase_asks m.time.phase (Some call) (if_lawful (refusal_of p s.state (grant f)) (grant f)) asking ∙ ap (λ (r : Option Unlawful). if_lawful r (grant f)) lawful)
 
 -- a federate that may not act doesn't move
 pub stays : (s : Stage) (plays : Scripts) (calls : List ℕ) (f : ℕ) → may_move s f ≡ false → move (wires_at s) plays f (play_of s calls) ≡ None

@@ -13,11 +13,11 @@ use Rattle.machine_laws.specs.declared.refusal.CallRefusal.{CallRefusal}
 use Rattle.machine_laws.specs.declared.logs.LogEntry.{LogEntry}
 use Rattle.machine_laws.specs.Plan.{Plan}
 use Rattle.machine_laws.specs.Machine.{State, Member, blank_member, member_at, after, entered_member, called_member, requested_member, ended_member, failed_member}
-use Rattle.machine_laws.specs.Moves.{step_by, or_failure, doing_refusal, call_by}
+use Rattle.machine_laws.specs.Moves.{step_by, or_failure, doing_refusal, call_by, is_calling}
 use Rattle.machine_laws.specs.Refusal.{refusal_word}
 use Rattle.one_place.specs.declared.actor.Actor.{Actor}
 use Rattle.one_place.specs.Reference.{doing_of, call_of}
-use Rattle.one_place.specs.Run.{IsActor, is_calling, going, passed}
+use Rattle.one_place.specs.Run.{IsActor, going, passed}
 use Rattle.one_place.specs.Work.{weight, work, letters, is_answering}
 use Rattle.one_place.proofs.Scripts.{words_fall, answer_sends, answer_leaves}
 

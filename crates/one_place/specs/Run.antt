@@ -8,13 +8,13 @@ use Rattle.federation_plan.specs.Plan.{Federation}
 use Rattle.federation_plan.specs.Wires.{wires_of}
 use Rattle.time_state.specs.Fed.{is_live, grant_of}
 use Rattle.time_state.specs.declared.Phase.{Phase}
-use Rattle.time_state.specs.declared.Phase.TheVariants.{Initializing, Entering, Running, Waiting}
+use Rattle.time_state.specs.declared.Phase.TheVariants.{Entering, Running, Waiting}
 use Rattle.fed_script.specs.Script.{Course, IsCourse, words_after, view_after}
 use Rattle.machine_laws.specs.declared.logs.LogEntry.{LogEntry}
 use Rattle.machine_laws.specs.Plan.{Plan}
 use Rattle.machine_laws.specs.Machine.{Member, State, Step, member_at, dues_to, handed_in, refusal_of}
 use Rattle.machine_laws.specs.Machine.Step.{grant}
-use Rattle.machine_laws.specs.Moves.{Doing, Scripts, Play, call_by, opening_play}
+use Rattle.machine_laws.specs.Moves.{Doing, Scripts, Play, call_by, opening_play, is_calling}
 use Rattle.one_place.specs.declared.actor.Actor.{Actor}
 use Rattle.one_place.specs.Machine.{Stage}
 use Rattle.one_place.specs.Reference.{Way, names_in, acts, call_of, read_on, taken_over, first_sight}
@@ -27,12 +27,6 @@ names_at s = names_in s.plan
 
 abbrev pub play_of : Stage → List ℕ → Play
 play_of s calls = record { state = s.state; calls = calls }
-
--- it calls
-abbrev pub is_calling : Phase → Bool
-is_calling Initializing = true
-is_calling Running = true
-is_calling phase = false
 
 -- a federate may act: it calls, or its grant is lawful
 abbrev pub may_move : Stage → ℕ → Bool

@@ -5,10 +5,10 @@ ghost use Rattle.std.specs.Prelude.{◌≡◌, ◌≤◌, ℕ, List, [], zero, l
 ghost use Rattle.hel_values.specs.declared.EndRef.{EndRef};
 ghost use Rattle.fed_script.specs.Script.{IsCourse, HasTime};
 ghost use Rattle.machine_laws.specs.Machine.{KeepsTime};
-ghost use Rattle.machine_laws.specs.Moves.{step_by};
+ghost use Rattle.machine_laws.specs.Moves.{step_by, is_calling};
 ghost use Rattle.federation_plan.specs.Interfaces.{AreFew};
 ghost use Rattle.one_place.specs.Reference.{doing_of, first_sight, taken_over};
-ghost use Rattle.one_place.specs.Run.{is_calling, going, passed, first_actors};
+ghost use Rattle.one_place.specs.Run.{going, passed, first_actors};
 ghost use Rattle.one_place.specs.Work.{is_answering};
 ghost use Rattle.one_place.specs.Step.{step_of};
 

@@ -5,12 +5,12 @@ ghost use Rattle.fed_script.specs.Script.{IsCourse};
 ghost use Rattle.machine_laws.specs.Refusal.{refusal_word};
 ghost use Rattle.machine_laws.specs.Machine.{KeepsTime, member_at, refusal_of, after};
 ghost use Rattle.machine_laws.specs.Machine.Step.{fail, grant};
-ghost use Rattle.machine_laws.specs.Moves.{Doing, Scripts, step_by, call_by, IsReference};
+ghost use Rattle.machine_laws.specs.Moves.{Doing, Scripts, step_by, call_by, IsReference, is_calling};
 ghost use Rattle.interface_names.specs.Limits.{most_federates};
 ghost use Rattle.one_place.specs.Step.{step_of};
 ghost use Rattle.one_place.specs.Machine.{refusal_at};
 ghost use Rattle.one_place.specs.Reference.{taken_over, plays_of, HasReferenceLogs};
-ghost use Rattle.one_place.specs.Run.{wires_at, names_at, play_of, may_move, is_calling, going, passed, calling_step, entry_in, actor_at, actor_after, step_at, IsNextToMove, IsActor, AreActors, AreFollowing, first_actors, begun_stage, Played, Leads};
+ghost use Rattle.one_place.specs.Run.{wires_at, names_at, play_of, may_move, going, passed, calling_step, entry_in, actor_at, actor_after, step_at, IsNextToMove, IsActor, AreActors, AreFollowing, first_actors, begun_stage, Played, Leads};
 ghost use Rattle.one_place.specs.Work.{is_answering, HasLess};
 
 use crate::actor::{Actor, actors_of};

@@ -13,7 +13,7 @@ ok_same x y e = cc
 err_same : {A E : Type 0} (x y : E) → ◌≡◌ {A = Result A E} (Err x) (Err y) → x ≡ y
 err_same x y e = cc
 
-ok_not_err : {A E : Type 0} (x : A) (y : E) → ◌≡◌ {A = Result A E} (Ok x) (Err y) → ⊥
+pub ok_not_err : {A E : Type 0} (x : A) (y : E) → ◌≡◌ {A = Result A E} (Ok x) (Err y) → ⊥
 ok_not_err x y e = cc
 
 -- what is read first, and then what is read by it

@@ -20,6 +20,7 @@ use Rattle.runner_config.specs.Runner.{tree_with}
 use Rattle.scenario_reading.specs.declared.refusal.Refusal.{Refusal}
 use Rattle.scenario_reading.specs.declared.scene.Setting.{Setting}
 use Rattle.scenario_reading.specs.declared.scene.Scenario.{Scenario}
+use Rattle.federation_plan.specs.Wires.{is_core_kind}
 use Rattle.scenario_reading.specs.Verdict.{Verdict, unless_refused, unrefused}
 
 -- what is read: the federates, the tree, and each federate's script
@@ -50,13 +51,9 @@ abbrev pub is_broker : NodeKind → Bool
 is_broker NodeKind.Broker = true
 is_broker other = false
 
-abbrev pub is_core : NodeKind → Bool
-is_core NodeKind.Core = true
-is_core other = false
-
 -- a broker below the root, or more than one core
 abbrev pub is_deep : List NodeRow → Bool
-is_deep nodes = list_any (λ (n : NodeRow). is_broker n.kind) nodes || nat_lt 1 (count_by (λ (n : NodeRow). is_core n.kind) nodes)
+is_deep nodes = list_any (λ (n : NodeRow). is_broker n.kind) nodes || nat_lt 1 (count_by (λ (n : NodeRow). is_core_kind n.kind) nodes)
 
 abbrev pub tree_refusal : List ℕ → List NodeRow → Option Refusal
 tree_refusal file nodes = if is_deep nodes then Some (Refusal.NotBuilt file) else None

@@ -5,9 +5,10 @@ ghost use Rattle.std.specs.Option.{is_none};
 ghost use Rattle.hel_lists.specs.Members.{Each};
 ghost use Rattle.fed_script.specs.Script.{IsCourse};
 ghost use Rattle.federation_plan.specs.Tree.{IsValid};
+ghost use Rattle.federation_plan.specs.Wires.{is_core_kind};
 ghost use Rattle.runner_config.specs.Runner.{tree_with};
 ghost use Rattle.scenario_reading.specs.Verdict.{Says, unless_refused, unrefused, nothing};
-ghost use Rattle.scenario_reading.specs.Fitting.{setting_seen, scenario_seen, federates_of, scripts_of, cores_of, is_broker, is_core, is_deep, tree_refusal, join_refusal, names_refusal, plan_told, plan_refusal, script_refusal, scripts_in, setting_of, scenario_of};
+ghost use Rattle.scenario_reading.specs.Fitting.{setting_seen, scenario_seen, federates_of, scripts_of, cores_of, is_broker, is_deep, tree_refusal, join_refusal, names_refusal, plan_told, plan_refusal, script_refusal, scripts_in, setting_of, scenario_of};
 
 use crate::refusal::Refusal;
 use crate::scene::{Scenario, Setting};
@@ -33,7 +34,7 @@ fn has_broker(nodes: &[NodeRow]) -> bool
 }
 
 fn core_count(nodes: &[NodeRow]) -> usize
-    ensures { result ≡ count_by (λ n. is_core n.kind) nodes.now }
+    ensures { result ≡ count_by (λ n. is_core_kind n.kind) nodes.now }
 {
     nodes
         .iter()

@@ -305,13 +305,14 @@ fn fault_says(rt: &impl Abort, alloc: Global, number: u64, said: &str) -> Result
     Ok(())
 }
 
-// A read that fails keeps its path.
+// A read that fails keeps its path. Each file is read once.
 #[test]
 fn failing_reads(rt: HostRuntime) -> Result<(), Fail> {
     let table = [
         (1, "cannot read d/run.json: 1 at d/run.json"),
         (2, "cannot read d/a.json: 1 at d/a.json"),
         (3, "cannot read d/b.json: 1 at d/b.json"),
+        (4, "read: 0 at "),
     ];
     for (number, said) in table {
         fault_says(&rt, rt.alloc(), number, said)?;

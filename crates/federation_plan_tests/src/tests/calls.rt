@@ -150,13 +150,16 @@ fn publications_have_targets(rt: HostRuntime) -> Result<(), Fail> {
     Ok(())
 }
 
+const GLOBALS: &str = "A @e @f @t @g p q\nB @e /k\nC @/h";
+
 // The interface of a federate's number and its own, and what the federation calls it as an endpoint
 // and as a publication: blank is what isn't there.
-const CALLED: [(u16, u16, &str, &str); 5] = [
+const CALLED: [(u16, u16, &str, &str); 6] = [
     (0, 1, "A/f", "A/q"),
     (0, 3, "A/g", "A/"),
     (0, 9, "A/", "A/"),
-    (1, 0, "B/e", "B/"),
+    (1, 0, "B/e", "k"),
+    (2, 0, "h", "C/"),
     (7, 0, "/", "/"),
 ];
 
@@ -191,12 +194,12 @@ fn have_names(rt: &impl Abort, alloc: Global, federates: &[FederateRecord]) -> R
         is_publication_name(rt, alloc, federates, at, publication)?;
     }
     assert!(rt; federate_name(federates, 1) == "B");
-    assert!(rt; federate_name(federates, 2).is_empty());
+    assert!(rt; federate_name(federates, 3).is_empty());
     Ok(())
 }
 
 #[test]
 fn interfaces_have_names(rt: HostRuntime) -> Result<(), Fail> {
-    let plan = plan(rt.alloc(), FEDERATES)?;
+    let plan = plan(rt.alloc(), GLOBALS)?;
     have_names(&rt, rt.alloc(), plan.federates())
 }

@@ -1,6 +1,6 @@
 use Rattle.std.proofs.Common.{arith, ◌∙◌}
 use Rattle.std.specs.HashMap.{get_by_text}
-use Rattle.federation_plan.specs.Called.{known_as}
+use Rattle.federation_plan.specs.Names.{known_as}
 use Rattle.federation_plan.proofs.Named.{one_named, called}
 use Rattle.federation_plan.proofs.names.add_names.Goals as goal
 

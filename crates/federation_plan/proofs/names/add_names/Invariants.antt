@@ -2,7 +2,7 @@ use Rattle.std.proofs.Common.{◌≡◌, ℕ, List, drop}
 use Rattle.std.specs.HashMap.{get_by_text}
 use Rattle.std.specs.Option.{option_or}
 use Rattle.federation_plan.specs.Interfaces.{interfaces_in, named}
-use Rattle.federation_plan.specs.Called.{known_as}
+use Rattle.federation_plan.specs.Names.{known_as}
 use Rattle.federation_plan.proofs.names.add_names.Given as goal
 
 abbrev pub invariant-loop-index : goal.invariant-loop-index

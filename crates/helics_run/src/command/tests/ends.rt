@@ -116,3 +116,25 @@ fn federates_that_wait_for_each_other(rt: HostRuntime) -> Result<(), Fail> {
     Call::new("check run.json", &files).expect(&rt, alloc, Status::Done, CHECKED, "")?;
     Ok(())
 }
+
+// Standard error doesn't take the line behind the logs.
+#[test]
+fn lines_behind_logs_that_are_not_taken(rt: HostRuntime) -> Result<(), Fail> {
+    let failed = [
+        ("run.json", ALONE.as_bytes()),
+        ("a.json", REPEATS.as_bytes()),
+    ];
+    let stuck = [
+        ("run.json", PAIR.as_bytes()),
+        ("a.json", ONE.as_bytes()),
+        ("b.json", OTHER.as_bytes()),
+    ];
+    for (files, logs) in [(&failed[..], REPEATS_LOGS), (&stuck[..], STUCK)] {
+        let call = Call {
+            failing_errs: &[1],
+            ..Call::new("sim run.json", files)
+        };
+        call.expect(&rt, rt.alloc(), Status::SinkFault, logs, "")?;
+    }
+    Ok(())
+}

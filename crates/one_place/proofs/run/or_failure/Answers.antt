@@ -11,7 +11,8 @@ use Rattle.one_place.specs.declared.step.MachineStep.{MachineStep}
 use Rattle.one_place.specs.Step.{step_of}
 use Rattle.one_place.specs.Machine.{refusal_at}
 use Rattle.one_place.specs.Run.{wires_at}
-use Rattle.one_place.proofs.Scripts.{calling_known, call_refused, refused_as_call, refused_with, may_fail, if_ok_then}
+use Rattle.one_place.proofs.Scripts.{call_refused, refused_as_call, refused_with, may_fail, if_ok_then}
+use Rattle.machine_laws.proofs.Moves.{calling_known}
 use Rattle.one_place.proofs.run.or_failure.Goals as goal
 
 pub unreachable-requires : goal.unreachable-requires

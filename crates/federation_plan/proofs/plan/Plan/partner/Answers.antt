@@ -2,7 +2,8 @@ use Rattle.std.proofs.Common.{ℕ, List, get_or, sym, subst}
 use Rattle.std.specs.List.Sorted.{IsStrictlyIncreasing}
 use Rattle.hel_lists.specs.Members.{IsIn}
 use Rattle.hel_lists.proofs.Members.{at_in}
-use Rattle.federation_plan.proofs.Waiting.{ancestor_within, left_least}
+use Rattle.federation_plan.proofs.Waiting.{left_least}
+use Rattle.federation_plan.proofs.Sent.{ancestor_within}
 use Rattle.federation_plan.proofs.plan.Plan.partner.Goals as goal
 
 pub is_wait_pair-requires-clause-b_first : goal.is_wait_pair-requires-clause-b_first
