@@ -13,7 +13,7 @@ use Rattle.machine_laws.specs.Machine.{Member, blank_member, log_of, end_of}
 use Rattle.machine_laws.proofs.Failures.{stops_at_failure}
 use Rattle.federation_plan.specs.Plan.{Federation, IsFederation}
 use Rattle.federation_plan.specs.Wires.{wires_of}
-use Rattle.federation_plan.proofs.Waiting.{ancestor_within}
+use Rattle.federation_plan.proofs.Sent.{ancestor_within}
 use Rattle.federation_plan.proofs.Wired.{plans_are}
 use Rattle.fed_script.specs.Script.{Course, IsCourse}
 use Rattle.one_place.specs.Orders.{HasLogsUpToFailure}
