@@ -11,7 +11,7 @@ pub record FilterTerms : Type 0 where
   pub destination_of : List (List ℕ)
   pub kind : FilterKind
 
--- a filter of this kind may stand before these destinations
+-- a delay and a chance are within their bounds, and a filter that reroutes stands before no destination
 abbrev pub KeepsBounds : FilterKind → List (List ℕ) → Type 0
 KeepsBounds (Delay delay) destinations = delay ≤ longest_span
 KeepsBounds (Drop per_million seed) destinations = per_million ≤ million

@@ -51,7 +51,7 @@ abbrev pub handed_item : Parcel
 handed_item = record { source = 0; seq = 0; target = 1; due = record { time = 10; micro = 0 }; content = message (7 ∷ []) 10 }
 
 -- the plan is as the laws need it, and the steps are a run that hands the message over at its due; before the first
--- federate asks, its grant would be early
+-- federate asks, the second's grant would be early
 pub record PairRuns : Type 0 where
   pub plan : IsPlan pair
   pub end : State

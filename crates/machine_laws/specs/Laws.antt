@@ -256,7 +256,7 @@ pub record WaitForEachOther (p : Plan) (a b : ℕ) : Type 0 where
 abbrev pub AllWait : State → Type 0
 AllWait s = (f : ℕ) → f < length s.members → (is_asking (member_at s f).time.phase ≡ true) ⊎ ((member_at s f).time.phase ≡ Ended Finished)
 
--- Where all wait that haven't finished, and no two of them for each other, one of them may be granted.
+-- Where all wait that haven't finished, and no two federates for each other, some grant is lawful.
 abbrev pub SomeGrant : Type 0
 SomeGrant = (p : Plan) (s : State) (before : List Step) (f : ℕ) → IsPlan p → ((a b : ℕ) → IsIn a (p.ancestors b) → a < length s.members) →
     IsRun p (opening p) before s → AllWait s → f < length s.members → is_asking (member_at s f).time.phase ≡ true →

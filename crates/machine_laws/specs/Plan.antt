@@ -69,7 +69,7 @@ items_by p fed f seq call = map (item_of fed f seq) (legs_of p f seq call)
 -- what the laws need of a plan
 pub record IsPlan (p : Plan) : Type 0 where
   pub settings : Each IsTerms p.settings
-  -- `first` is a stamp, never falls where its stamp rises, is above its stamp, and no item to another federate is due before it
+  -- `first` is a stamp, never falls where its stamp rises, is at least the next stamp, and no item to another federate is due before it
   pub stamps : (a : ℕ) (s : At) → IsStamp s → IsStamp (p.first a s)
   pub rises : (a : ℕ) (s t : At) → IsStamp s → IsStamp t → rank s ≤ rank t → rank (p.first a s) ≤ rank (p.first a t)
   pub above : (a : ℕ) (s : At) → IsStamp s → rank (next_of s) ≤ rank (p.first a s)

@@ -1,4 +1,4 @@
--- Chance: SplitMix64 of Steele, Lea and Flood (2014), with the constants of Vigna's published code.
+-- Chance: SplitMix64, with the constants of Sebastiano Vigna.
 -- A state is one number of 64 bits.
 use Rattle.std.specs.Prelude.{ℕ, ◌+◌, ◌*◌, ◌/◌, ◌%◌, ◌^◌, bit_xor}
 

@@ -48,7 +48,7 @@ is_asking Entering = true
 is_asking Waiting = true
 is_asking p = false
 
--- it was granted nothing yet
+-- it lives, and was granted nothing yet
 abbrev pub is_first : Phase → Bool
 is_first Created = true
 is_first Initializing = true
