@@ -63,7 +63,7 @@ pub record PlanLaws : Type 0 where
       filtered_at p.federates from sequence to ≡ Kept end delay → IsEndpoint p.federates end
   pub arrives : (p : Federation) (from to end : EndRef) (sequence delay : ℕ) → IsFederation p → IsEndpoint p.federates from → IsEndpoint p.federates to →
       may_send p.federates from to ≡ true → filtered_at p.federates from sequence to ≡ Kept end delay → (end.fed ≡ from.fed) ⊎ IsIn from.fed (row_of p.ancestors end.fed)
-  -- to which nothing is objected is of an interface of the federate, and a send to where it may send
+  -- a call to which nothing is objected is of an interface of the federate, and a send means an endpoint to which it may send
   pub publishes : (feds : List FederateRecord) (f publication : ℕ) (value : Value) → objection feds f (publish publication value) ≡ None →
       IsPublication feds (record { fed = f; index = publication })
   pub sends : (feds : List FederateRecord) (f endpoint : ℕ) (name payload : List ℕ) → objection feds f (send endpoint name payload) ≡ None →

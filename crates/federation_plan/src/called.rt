@@ -1,5 +1,5 @@
-// What the federation calls federates and interfaces. A federate that there isn't has a blank name;
-// an interface that its federate hasn't is told by a blank name of its own, as in `A/`.
+// What the federation calls federates and interfaces. A federate that isn't there has a blank name;
+// an interface that isn't there has a blank name of its own, as in `A/`.
 ghost use Rattle.std.specs.Prelude.{◌≡◌, IfOk};
 ghost use Rattle.federation_plan.specs.Interfaces.{federate_at, publication_at, publication_interface, endpoint_at, pub_name, end_name};
 

@@ -68,6 +68,6 @@ IsLater CountLimit = Unit {0}
 IsLater Mismatch = Unit {0}
 IsLater status = ⊥
 
--- every status but 5 and 9 yields to these
+-- this status is due, and yields to 5 and 9 alone
 abbrev pub Stands : Status → Status → Type 0
 Stands due status = (status ≡ due) ⊎ (status ≡ SinkFault) ⊎ (status ≡ OutOfMemory)

@@ -81,7 +81,7 @@ gathered (c ∷ cs) = c.queue ++ gathered cs
 abbrev pub new_clock : Terms → Clock
 new_clock terms = record { time = created terms; seq = 0; queue = []; event = zero_stamp }
 
--- one of each
+-- one for each federate
 abbrev pub new_clocks : List FederateRecord → List Clock
 new_clocks feds = map (λ (f : FederateRecord). new_clock f.settings) feds
 

@@ -16,6 +16,7 @@ weight Entering a = 2 * (length a.script.words + 1) + 1
 weight Waiting a = 2 * (length a.script.words + 1) + 1
 weight phase a = 2 * (length a.script.initial + length a.script.words + 2)
 
+-- of all federates
 unfoldable pub work : List Member → List Actor → ℕ
 work (m ∷ ms) (a ∷ actors) = weight m.time.phase a + work ms actors
 work ms actors = 0
