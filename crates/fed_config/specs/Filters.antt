@@ -53,13 +53,13 @@ last_named name place (item property more) =
 abbrev pub value_at : {A : Type 0} → (Data → Read A) → Data → Read A
 value_at read property = needed_at (codes "value") read (members_in_object property)
 
-abbrev pub value_of_last : {A : Type 0} → List ℕ → (Data → Read A) → Option (ℕ × Data) → Read (Option A)
-value_of_last name read None = Ok None
-value_of_last name read (Some p) = under (decimal p.0) (value_at read p.1) >>= λ x. Ok (Some x)
+abbrev pub value_of_last : {A : Type 0} → (Data → Read A) → Option (ℕ × Data) → Read (Option A)
+value_of_last read None = Ok None
+value_of_last read (Some p) = under (decimal p.0) (value_at read p.1) >>= λ x. Ok (Some x)
 
 -- what the last property of a name holds, where there is one
 abbrev pub property_in : {A : Type 0} → List ℕ → (Data → Read A) → Data → Read (Option A)
-property_in name read (array properties) = value_of_last name read (last_named name 0 properties)
+property_in name read (array properties) = value_of_last read (last_named name 0 properties)
 property_in name read (object members) =
     if is_named name (object members) then (value_at read (object members) >>= λ x. Ok (Some x)) else Ok None
 property_in name read _ = Ok None

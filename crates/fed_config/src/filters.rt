@@ -237,7 +237,7 @@ fn property_of_list<R: Reader>(
     name: &str,
     reader: &R,
 ) -> Result<Option<R::Output>, ConfigRefusal>
-    ensures { Gives (λ x. x) result (value_of_last name.now (R.reads reader.now) (last_named name.now 0 (items_view list.now))) }
+    ensures { Gives (λ x. x) result (value_of_last (R.reads reader.now) (last_named name.now 0 (items_view list.now))) }
 {
     match last_named(list, name) {
         Some((place, property)) => match value_at(alloc, property, reader) {
