@@ -38,10 +38,8 @@ is_local (Some host) = bytes_eq host (codes "localhost") || bytes_eq host (codes
 
 -- the path in the words `$self fed PATH`
 abbrev pub config_in : List (List ℕ) → Option (List ℕ)
-config_in [] = None
-config_in (program ∷ []) = None
-config_in (program ∷ word ∷ []) = None
 config_in (program ∷ word ∷ path ∷ words) = if bytes_eq program (codes "$self") && bytes_eq word (codes "fed") then Some path else None
+config_in words = None
 
 abbrev pub config_of : Option (List ℕ) → List (List ℕ) → Option (List ℕ)
 config_of (Some path) words = Some path
