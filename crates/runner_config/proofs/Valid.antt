@@ -1,6 +1,7 @@
 -- The nodes of a tree without a cause, with the cores of the entries, are a valid tree.
 use Rattle.std.proofs.Common.{◌≡◌, ◌≢◌, ◌∙◌, inl, inr, ℕ, zero, suc, ◌+◌, ◌-◌, ◌<◌, ◌≤◌, arith, Bool, true, false, ◌&&◌, cond, not, List, [], ◌∷◌, length, map, length-append, Option, Some, None, is_some, ap, sym, subst, refl, nat_lt}
-use Rattle.std.specs.Prelude.{unwrap_or}
+use Rattle.std.specs.Prelude.{unwrap_or, option_and_then, nat_le}
+use Rattle.std.specs.Bool.{then_some}
 use Rattle.std.specs.List.{position_or_len}
 use Rattle.std.specs.Str.{bytes_eq}
 use Rattle.runner_config.specs.declared.refusal.TreeCause.TheVariants.{NameTwice, UnknownParent, UnknownCore, TooManyNodes}
@@ -17,7 +18,7 @@ use Rattle.runner_config.specs.declared.reading.Entry.{Entry}
 use Rattle.runner_config.specs.declared.shape.NodeText.{NodeText}
 use Rattle.runner_config.specs.declared.shape.TreeText.{TreeText}
 use Rattle.runner_config.specs.Names.{place_of, are_different}
-use Rattle.runner_config.specs.Nodes.{names_of, as_parent, parent_of, are_known, as_core, core_of, has_parents, has_cores, cause_of, rows_from, root_row, nodes_of}
+use Rattle.runner_config.specs.Nodes.{names_of, parent_of, are_known, core_of, has_parents, has_cores, cause_of, rows_from, root_row, nodes_of}
 use Rattle.runner_config.specs.Runner.{is_broker_listed, federates_of, entry_in, runner_with, tree_with}
 use Rattle.runner_config.proofs.Rows.{rows_length, names_length}
 
@@ -27,6 +28,9 @@ record IsRow (brokers : ℕ) (kind : NodeKind) (number : ℕ) (row : NodeRow) : 
   is : row.kind ≡ kind
   falls : row.parent < number
   broker : row.parent ≤ brokers
+
+abbrev as_parent : ℕ → ℕ → Option ℕ → Option ℕ
+as_parent brokers number found = option_and_then (λ place. then_some (nat_lt place number && nat_le place brokers) place) found
 
 parent_bounds : (brokers number : ℕ) (found : Option ℕ) → is_some (as_parent brokers number found) ≡ true
     → (unwrap_or (as_parent brokers number found) 0 < number) × (unwrap_or (as_parent brokers number found) 0 ≤ brokers)
@@ -134,6 +138,9 @@ within false n m place lt e = cc
 place_within : (names : List (List ℕ)) (name : List ℕ) (place : ℕ) → place_of names name ≡ Some place → place < length names
 place_within names name place e =
     within (nat_lt (position_or_len (bytes_eq name) names) (length names)) (position_or_len (bytes_eq name) names) (length names) place refl e
+
+abbrev as_core : ℕ → Option ℕ → Option ℕ
+as_core brokers found = option_and_then (λ place. then_some (nat_lt brokers place) place) found
 
 core_bounds : (names : List (List ℕ)) (brokers : ℕ) (core : Option (List ℕ)) → brokers + 1 < length names → is_some (core_of names brokers core) ≡ true
     → (brokers < unwrap_or (core_of names brokers core) 0) × (unwrap_or (core_of names brokers core) 0 < length names)

@@ -1,5 +1,6 @@
 -- The nodes of a tree, numbered: the root, the brokers, the cores.
-use Rattle.std.specs.Prelude.{ℕ, ◌≡◌, ◌≤◌, ◌+◌, ◌&&◌, Bool, true, not, nat_lt, nat_le, if◌then◌else◌, List, [], ◌∷◌, ◌++◌, length, map, codes, Option, Some, None, is_some, unwrap_or, Result, Ok, Err}
+use Rattle.std.specs.Prelude.{ℕ, ◌≡◌, ◌≤◌, ◌+◌, ◌&&◌, Bool, true, not, nat_lt, nat_le, if◌then◌else◌, List, [], ◌∷◌, ◌++◌, length, map, codes, Option, Some, None, is_some, option_and_then, unwrap_or, Result, Ok, Err}
+use Rattle.std.specs.Bool.{then_some}
 use Rattle.std.specs.List.{list_all}
 use Rattle.federation_plan.specs.declared.tree.NodeKind.{NodeKind}
 use Rattle.federation_plan.specs.declared.tree.NodeKind.TheVariants.{Root, Broker, Core}
@@ -20,17 +21,11 @@ node_names nodes = map (λ (n : NodeText). n.name) nodes
 abbrev pub names_of : TreeText → List (List ℕ)
 names_of t = codes "root" ∷ (node_names t.brokers ++ node_names t.cores)
 
-abbrev pub where_is : Bool → ℕ → Option ℕ
-where_is holds number = if holds then Some number else None
-
--- the root or a broker, with a lower number
-abbrev pub as_parent : ℕ → ℕ → Option ℕ → Option ℕ
-as_parent brokers number None = None
-as_parent brokers number (Some place) = where_is (nat_lt place number && nat_le place brokers) place
-
--- the parent of a node, by the names of all nodes, the number of brokers, and the node's own number
+-- the parent of a node, by the names of all nodes, the number of brokers, and the node's own number: the root or a broker,
+-- with a lower number
 abbrev pub parent_of : List (List ℕ) → ℕ → ℕ → List ℕ → Option ℕ
-parent_of names brokers number parent = as_parent brokers number (place_of names parent)
+parent_of names brokers number parent =
+    option_and_then (λ place. then_some (nat_lt place number && nat_le place brokers) place) (place_of names parent)
 
 -- nodes, the first of which has this number, have parents
 abbrev pub are_known : List (List ℕ) → ℕ → ℕ → List NodeText → Bool
@@ -38,14 +33,10 @@ are_known names brokers number [] = true
 are_known names brokers number (node ∷ nodes) =
     is_some (parent_of names brokers number node.parent) && are_known names brokers (number + 1) nodes
 
-abbrev pub as_core : ℕ → Option ℕ → Option ℕ
-as_core brokers None = None
-as_core brokers (Some place) = where_is (nat_lt brokers place) place
-
 -- the core of that name, and the first without a name
 abbrev pub core_of : List (List ℕ) → ℕ → Option (List ℕ) → Option ℕ
 core_of names brokers None = Some (brokers + 1)
-core_of names brokers (Some core) = as_core brokers (place_of names core)
+core_of names brokers (Some core) = option_and_then (λ place. then_some (nat_lt brokers place) place) (place_of names core)
 
 -- the nodes of a tree have parents
 abbrev pub has_parents : List (List ℕ) → TreeText → Bool
