@@ -1,7 +1,7 @@
 -- The nodes of a tree, numbered: the root, the brokers, the cores.
-use Rattle.std.specs.Prelude.{ℕ, ◌≡◌, ◌≤◌, ◌+◌, ◌&&◌, Bool, true, not, nat_lt, nat_le, if◌then◌else◌, List, [], ◌∷◌, ◌++◌, length, map, codes, Option, Some, None, is_some, option_and_then, unwrap_or, Result, Ok, Err}
+use Rattle.std.specs.Prelude.{ℕ, ◌≡◌, ◌≤◌, ◌+◌, ◌&&◌, Bool, not, nat_lt, nat_le, if◌then◌else◌, List, ◌∷◌, ◌++◌, length, map, codes, Option, Some, None, is_some, option_and_then, unwrap_or, Result, Ok, Err}
 use Rattle.std.specs.Bool.{then_some}
-use Rattle.std.specs.List.{list_all}
+use Rattle.std.specs.List.{list_all, enumerate_from}
 use Rattle.federation_plan.specs.declared.tree.NodeKind.{NodeKind}
 use Rattle.federation_plan.specs.declared.tree.NodeKind.TheVariants.{Root, Broker, Core}
 use Rattle.federation_plan.specs.declared.tree.NodeRow.{NodeRow}
@@ -29,9 +29,8 @@ parent_of names brokers number parent =
 
 -- nodes, the first of which has this number, have parents
 abbrev pub are_known : List (List ℕ) → ℕ → ℕ → List NodeText → Bool
-are_known names brokers number [] = true
-are_known names brokers number (node ∷ nodes) =
-    is_some (parent_of names brokers number node.parent) && are_known names brokers (number + 1) nodes
+are_known names brokers number nodes =
+    list_all (λ (n : ℕ × NodeText). is_some (parent_of names brokers n.0 n.1.parent)) (enumerate_from number nodes)
 
 -- the core of that name, and the first without a name
 abbrev pub core_of : List (List ℕ) → ℕ → Option (List ℕ) → Option ℕ
@@ -60,10 +59,9 @@ cause_of t entries = if are_different (names_of t) then cause_by (names_of t) t 
 
 -- nodes of a kind, the first of which has this number
 abbrev pub rows_from : List (List ℕ) → ℕ → NodeKind → ℕ → List NodeText → List NodeRow
-rows_from names brokers kind number [] = []
-rows_from names brokers kind number (node ∷ nodes) =
-    record { name = node.name; parent = unwrap_or (parent_of names brokers number node.parent) 0; kind = kind }
-    ∷ rows_from names brokers kind (number + 1) nodes
+rows_from names brokers kind number nodes =
+    map (λ (n : ℕ × NodeText). record { name = n.1.name; parent = unwrap_or (parent_of names brokers n.0 n.1.parent) 0; kind = kind })
+    (enumerate_from number nodes)
 
 abbrev pub root_row : NodeRow
 root_row = record { name = codes "root"; parent = 0; kind = Root }
